@@ -1,0 +1,1 @@
+pub const EPERM: u32 = 1;

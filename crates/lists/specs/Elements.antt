@@ -1,0 +1,57 @@
+-- Elements of a list: `map`, `set`, `take` and `getD` together.
+-- Assumes nothing.
+use Prim.Native.Nat.{ℕ, zero, suc, _+_, _≤_, _<_}
+use mathlib.Core.Path.{_≡_, refl, ap, _∙_, sym}
+use mathlib.Core.List.{List, [], _∷_, _++_, map}
+use native.Mathlib.Omega.{arith}
+use native.Mathlib.Nat.{zero-add, add-zero, suc-add}
+use native.Mathlib.Numerals.{add-one}
+use lib.ListN.{length, getD, set, take, drop, length-map, length-take}
+use lib.Seq.{take-suc, drop-cons, set-at, getD-at, take-all, length-take-le, drop-length, append-snoc, getD-append-add, drop-append-add, getD-drop, take-nil}
+
+module _ {A B : Type 0} (f : A → B) where
+  pub map-set : (l : List A) (i : ℕ) (a : A) → map f (set l i a) ≡ set (map f l) i (f a)
+  map-set [] i a = refl
+  map-set (x ∷ l) zero a = refl
+  map-set (x ∷ l) (suc i) a = ap (λ (r : List B). f x ∷ r) (map-set l i a)
+
+  pub map-take : (n : ℕ) (l : List A) → map f (take n l) ≡ take n (map f l)
+  map-take zero [] = refl
+  map-take zero (x ∷ l) = refl
+  map-take (suc n) [] = refl
+  map-take (suc n) (x ∷ l) = ap (λ (r : List B). f x ∷ r) (map-take n l)
+
+  pub map-append : (xs ys : List A) → map f (xs ++ ys) ≡ map f xs ++ map f ys
+  map-append [] ys = refl
+  map-append (x ∷ xs) ys = ap (λ (r : List B). f x ∷ r) (map-append xs ys)
+
+  -- a list of the length of its image
+  pub unmapped : (l : List A) (n : ℕ) → length (map f l) ≡ n → length l ≡ n
+  unmapped l n p = sym (length-map l f) ∙ p
+
+module _ {A : Type 0} where
+  pub getD-past : (xs ys : List A) (n m : ℕ) (d : A) → length xs ≡ n → getD (xs ++ ys) (n + m) d ≡ getD ys m d
+  getD-past xs ys n m d e = rw (← e) (getD-append-add xs ys m d)
+
+  pub drop-past : (xs ys : List A) (n m : ℕ) → length xs ≡ n → drop (n + m) (xs ++ ys) ≡ drop m ys
+  drop-past xs ys n m e = rw (← e) (drop-append-add xs ys m)
+
+  pub drop-take : (n m : ℕ) (l : List A) → drop n (take (n + m) l) ≡ take m (drop n l)
+  drop-take zero m l = rw zero-add
+  drop-take (suc n) m [] = rw (take-nil (suc n + m), take-nil m)
+  drop-take (suc n) m (x ∷ l) = rw suc-add (drop-take n m l)
+
+  -- an element that changes, and all the others, are related to what stood there
+  pub set-rel : (R : A → A → Type 0) → ((x : A) → R x x) → (l : List A) (i h : ℕ) (v d : A) → R v (getD l i d) → R (getD (set l i v) h d) (getD l h d)
+  set-rel R q [] i h v d e = q d
+  set-rel R q (x ∷ xs) zero zero v d e = e
+  set-rel R q (x ∷ xs) zero (suc h) v d e = q (getD xs h d)
+  set-rel R q (x ∷ xs) (suc i) zero v d e = q x
+  set-rel R q (x ∷ xs) (suc i) (suc h) v d e = set-rel R q xs i h v d e
+
+  -- two lists that agree from a place on agree there
+  pub getD-same-rest : (l s : List A) (j : ℕ) (d : A) → drop j s ≡ drop j l → getD s j d ≡ getD l j d
+  getD-same-rest l s j d e =
+      let a = rw add-zero at (getD-drop j s 0 d) in
+      let b = rw add-zero at (getD-drop j l 0 d) in
+      sym a ∙ ap (λ (r : List A). getD r 0 d) e ∙ b

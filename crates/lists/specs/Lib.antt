@@ -1,0 +1,6 @@
+pub mod Tests
+pub mod Sums
+pub mod Elements
+pub mod Places
+pub mod Vector
+pub mod Blocks

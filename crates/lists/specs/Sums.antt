@@ -1,0 +1,114 @@
+-- Sums of a weight over a list, those that pass a test, whether one does.
+-- Assumes nothing.
+use Prim.Native.Nat.{ℕ, zero, suc, _+_, _*_, _≤_, _<_}
+use mathlib.Core.Bool.{Bool, true, false, cond, _&&_, _||_, not}
+use mathlib.Core.Path.{_≡_, refl, ap, _∙_, sym}
+use mathlib.Core.List.{List, [], _∷_, _++_, map}
+use native.Mathlib.Omega.{arith}
+use native.Mathlib.Numerals.{add-one}
+use lib.ListN.{length, getD, take, length-take}
+use lib.Seq.{take-suc}
+use Rattle.lists.specs.Tests.{bit, split, clash, neither}
+
+module _ {A : Type 0} where
+  -- the sum of a weight over a list
+  abbrev pub sum : (A → ℕ) → List A → ℕ
+  sum f [] = 0
+  sum f (x ∷ xs) = f x + sum f xs
+
+  pub sum-append : (f : A → ℕ) (xs ys : List A) → sum f (xs ++ ys) ≡ sum f xs + sum f ys
+  sum-append f [] ys = omega arith
+  sum-append f (x ∷ xs) ys = omega (arith, sum-append f xs ys)
+
+  pub sum-same : (f g : A → ℕ) (xs : List A) → ((x : A) → f x ≡ g x) → sum f xs ≡ sum g xs
+  sum-same f g [] h = refl
+  sum-same f g (x ∷ xs) h = omega (arith, sum-same f g xs h, h x)
+
+  pub sum-le : (f g : A → ℕ) (xs : List A) → ((x : A) → f x ≤ g x) → sum f xs ≤ sum g xs
+  sum-le f g [] h = omega arith
+  sum-le f g (x ∷ xs) h = omega (arith, sum-le f g xs h, h x)
+
+  -- weights of at most w
+  pub sum-most : (w : ℕ) (f : A → ℕ) (xs : List A) → ((x : A) → f x ≤ w) → sum f xs ≤ length xs * w
+  sum-most w f [] h = omega arith
+  sum-most w f (x ∷ xs) h = omega (arith, sum-most w f xs h, h x)
+
+  -- a loop over the first i elements goes on to the next
+  pub sum-next : (f : A → ℕ) (l : List A) (i : ℕ) (d : A) → i < length l → sum f (take (i + 1) l) ≡ sum f (take i l) + f (getD l i d)
+  sum-next f l i d h = rw (add-one, take-suc l i d) (omega (arith, sum-append f (take i l) (getD l i d ∷ [])))
+
+  -- those that pass a test
+  abbrev pub keep : (A → Bool) → List A → List A
+  keep p [] = []
+  keep p (x ∷ xs) = cond (p x) (x ∷ keep p xs) (keep p xs)
+
+  pub sum-split : (f : A → ℕ) (p : A → Bool) (xs : List A) → sum f (keep p xs) + sum f (keep (λ x. not (p x)) xs) ≡ sum f xs
+  sum-split f p [] = refl
+  sum-split f p (x ∷ xs) =
+      let ih = sum-split f p xs in
+      split (p x) (λ e. rw e (omega arith)) (λ e. rw e (omega arith))
+
+  pub keep-append : (p : A → Bool) (xs ys : List A) → keep p (xs ++ ys) ≡ keep p xs ++ keep p ys
+  keep-append p [] ys = refl
+  keep-append p (x ∷ xs) ys =
+      let ih = keep-append p xs ys in
+      split (p x) (λ e. rw e (ap (λ (l : List A). x ∷ l) ih)) (λ e. rw e ih)
+
+  pub length-keep : (p : A → Bool) (xs : List A) → length (keep p xs) ≤ length xs
+  length-keep p [] = omega arith
+  length-keep p (x ∷ xs) =
+      let ih = length-keep p xs in
+      split (p x) (λ e. rw e (omega arith)) (λ e. rw e (omega arith))
+
+  -- how many pass a test
+  abbrev pub count : (A → Bool) → List A → ℕ
+  count p xs = sum (λ x. bit (p x)) xs
+
+  pub length-keep-count : (p : A → Bool) (xs : List A) → length (keep p xs) ≡ count p xs
+  length-keep-count p [] = refl
+  length-keep-count p (x ∷ xs) =
+      let ih = length-keep-count p xs in
+      split (p x) (λ e. rw e (omega arith)) (λ e. rw e (omega arith))
+
+  -- whether one passes a test
+  abbrev pub any : (A → Bool) → List A → Bool
+  any p [] = false
+  any p (x ∷ xs) = p x || any p xs
+
+  pub any-append : (p : A → Bool) (xs ys : List A) → any p (xs ++ ys) ≡ (any p xs || any p ys)
+  any-append p [] ys = refl
+  any-append p (x ∷ xs) ys =
+      let ih = any-append p xs ys in
+      split (p x) (λ e. rw e) (λ e. rw e ih)
+
+  -- none passes a test: the count is 0
+  pub any-none : (p : A → Bool) (xs : List A) → any p xs ≡ false → count p xs ≡ 0
+  any-none p [] e = refl
+  any-none p (x ∷ xs) e =
+      let n = neither (p x) (any p xs) e in
+      let ih = any-none p xs (n .1) in
+      rw (n .0) (omega arith)
+
+  pub none-any : (p : A → Bool) (xs : List A) → count p xs ≡ 0 → any p xs ≡ false
+  none-any p [] e = refl
+  none-any p (x ∷ xs) e =
+      split (p x) (λ q. absurd (let z = rw q at e in omega arith)) (λ q. rw q (none-any p xs (let z = rw q at e in omega arith)))
+
+  -- a search over the first i elements that found none goes on, or finds the next
+  pub any-next : (p : A → Bool) (l : List A) (i : ℕ) (d : A) → i < length l → any p (take i l) ≡ false → any p (take (i + 1) l) ≡ p (getD l i d)
+  any-next p l i d h e =
+      rw (add-one, take-suc l i d, any-append, e)
+      (split (p (getD l i d)) (λ q. rw q) (λ q. rw q))
+
+  -- what one of the first elements passes, one of all does
+  pub any-taken : (p : A → Bool) (l : List A) (i n : ℕ) (d : A) → i < n → i < length l → p (getD l i d) ≡ true → any p (take n l) ≡ true
+  any-taken p [] i n d h k e = absurd (omega arith)
+  any-taken p (x ∷ l) i zero d h k e = absurd (omega arith)
+  any-taken p (x ∷ l) zero (suc n) d h k e = rw e
+  any-taken p (x ∷ l) (suc i) (suc n) d h k e =
+      let ih = any-taken p l i n d (omega arith) (omega arith) e in
+      split (p x) (λ q. rw q) (λ q. rw (q, ih))
+
+pub sum-map : {A B : Type 0} (f : B → ℕ) (g : A → B) (xs : List A) → sum f (map g xs) ≡ sum (λ x. f (g x)) xs
+sum-map f g [] = refl
+sum-map f g (x ∷ xs) = omega (arith, sum-map f g xs)

@@ -1,0 +1,129 @@
+-- A list of at most k elements, kept as `take count slots` in an array of k slots.
+-- Each operation on the array is a loop: what it has made after j turns, how that begins, goes on and ends.
+-- Assumes nothing.
+use Prim.Native.Nat.{ℕ, zero, suc, _+_, _-_, _≤_, _<_, min}
+use mathlib.Core.Bool.{Bool, true, false, cond}
+use mathlib.Core.Path.{_≡_, refl, ap, _∙_, sym}
+use mathlib.Core.List.{List, [], _∷_, _++_, map, append-assoc, append-nil}
+use native.Mathlib.Omega.{arith}
+use native.Mathlib.Nat.{add-zero}
+use native.Mathlib.Numerals.{add-one}
+use lib.ListN.{length, getD, set, take, drop, length-map, length-take, length-append, length-set, length-drop, take-append-drop, drop-of-length-le}
+use lib.Seq.{take-suc, drop-cons, set-at, getD-at, take-all, take-at, length-take-le, drop-length, append-snoc, take-suc-set, take-set-le, drop-set-lt, getD-drop, drop-drop, take-append-le, take-take, drop-append-le}
+use lib.Dec.{ltb, leb}
+use borrow.Author.Tests.{lt-ltb, le-ltb, ltb-true}
+use Rattle.lists.specs.Tests.{bit, split}
+use Rattle.lists.specs.Sums.{keep, keep-append, length-keep}
+use Rattle.lists.specs.Places.{without, without-append, without-last, length-without, take-without, drop-without}
+use Rattle.lists.specs.Elements.{map-append, getD-past, getD-same-rest, drop-past, drop-take}
+
+module _ {A : Type 0} where
+  -- one more at the end of a list that holds at most k; a full one stays
+  abbrev pub put : ℕ → List A → A → List A
+  put k l x = cond (ltb (length l) k) (l ++ (x ∷ [])) l
+
+  pub length-over : (n k : ℕ) (l : List A) → length l ≡ k → k ≤ n → length (take n l) ≡ k
+  length-over n k l e h = rw (take-all n l (omega arith)) e
+
+  pub put-room : (k n : ℕ) (l : List A) (x : A) → length l ≡ k → n < k → take (n + 1) (set l n x) ≡ put k (take n l) x
+  put-room k n l x e h = rw (add-one, take-suc-set l n x (omega arith), length-take-le n l (omega arith), lt-ltb n k h)
+
+  pub put-full : (k n : ℕ) (l : List A) (x : A) → length l ≡ k → k ≤ n → take n l ≡ put k (take n l) x
+  put-full k n l x e h = rw (length-over n k l e h, le-ltb k k (omega arith))
+
+  pub length-put : (k : ℕ) (l : List A) (x : A) → length l ≤ k → length (put k l x) ≤ k
+  length-put k l x h =
+      split (ltb (length l) k)
+      (λ e. rw e (omega (arith, length-append l (x ∷ []), ltb-true)))
+      (λ e. rw e h)
+
+  -- the element at i taken out: those after it moved down as far as place j
+  abbrev pub shifted : ℕ → ℕ → List A → List A
+  shifted i j l = without i (take (suc j) l) ++ drop j l
+
+  length-shift-head : (i j : ℕ) (l : List A) → i ≤ j → j < length l → length (without i (take (suc j) l)) ≡ j
+  length-shift-head i j l a b = omega (arith, length-without i (take (suc j) l) (omega (arith, length-take-le (suc j) l b)), length-take-le (suc j) l b)
+
+  pub length-shifted : (i j : ℕ) (l : List A) → i ≤ j → j < length l → length (shifted i j l) ≡ length l
+  length-shifted i j l a b = omega (arith, length-append (without i (take (suc j) l)) (drop j l), length-shift-head i j l a b, length-drop j l)
+
+  pub shift-start : (i : ℕ) (l : List A) → i < length l → l ≡ shifted i i l
+  shift-start i l h = rw (without-last i l h, take-append-drop)
+
+  pub shift-next : (i j : ℕ) (l : List A) (d : A) → i ≤ j → j + 1 < length l
+      → set (shifted i j l) j (getD (shifted i j l) (j + 1) d) ≡ shifted i (j + 1) l
+  shift-next i j l d a b =
+      let n : length (without i (take (suc j) l)) ≡ j = length-shift-head i j l a (omega arith) in
+      let m : length (take (suc j) l) ≡ suc j = length-take-le (suc j) l (omega arith) in
+      let h : suc j < length l = omega arith in
+      let v : getD (shifted i j l) (j + 1) d ≡ getD l (j + 1) d = getD-past (without i (take (suc j) l)) (drop j l) j 1 d n ∙ getD-drop j l 1 d in
+      rw (v, drop-cons l j d (omega arith), set-at (without i (take (suc j) l)) (getD l j d) (drop (suc j) l) (getD l (j + 1) d) j n, add-one, take-suc l (suc j) d)
+      (rw (without-append i (take (suc j) l) (getD l (suc j) d ∷ []) (omega arith)) (sym (append-snoc (without i (take (suc j) l)) (getD l (suc j) d) (drop (suc j) l))))
+
+  pub shift-end : (i j : ℕ) (l : List A) → i ≤ j → j < length l → take j (shifted i j l) ≡ without i (take (suc j) l)
+  shift-end i j l a b = take-at (without i (take (suc j) l)) (drop j l) j (length-shift-head i j l a b)
+
+  -- what is before i, and what is past j, stays; what is from i on is shifted by itself
+  pub take-shifted : (i j : ℕ) (l : List A) → i ≤ j → j < length l → take i (shifted i j l) ≡ take i l
+  take-shifted i j l a b =
+      take-append-le i (without i (take (suc j) l)) (drop j l) (omega (arith, length-shift-head i j l a b))
+      ∙ take-without i (take (suc j) l)
+      ∙ take-take i (suc j) l (omega arith)
+
+  pub drop-shifted-past : (i j k : ℕ) (l : List A) → i ≤ j → j < length l → drop (j + k) (shifted i j l) ≡ drop (j + k) l
+  drop-shifted-past i j k l a b = drop-past (without i (take (suc j) l)) (drop j l) j k (length-shift-head i j l a b) ∙ drop-drop k j l
+
+  pub drop-shifted : (i m : ℕ) (l : List A) → i + m < length l → drop i (shifted i (i + m) l) ≡ shifted 0 m (drop i l)
+  drop-shifted i m l b =
+      let s : suc (i + m) ≡ i + suc m = omega arith in
+      let a : drop i (take (suc (i + m)) l) ≡ take (suc m) (drop i l) = rw s (drop-take i (suc m) l) in
+      drop-append-le i (without i (take (suc (i + m)) l)) (drop (i + m) l) (omega (arith, length-shift-head i (i + m) l (omega arith) b))
+      ∙ rw (drop-without i (take (suc (i + m)) l), a, drop-drop m i l)
+
+module _ {A : Type 0} (f : A → A) where
+  -- each element changed: those before place j
+  abbrev pub mapped : ℕ → List A → List A
+  mapped j l = map f (take j l) ++ drop j l
+
+  pub length-mapped : (j : ℕ) (l : List A) → length (mapped j l) ≡ length l
+  length-mapped j l = length-append (map f (take j l)) (drop j l) ∙ omega (arith, length-map (take j l) f, length-take j l, length-drop j l)
+
+  pub mapped-next : (j : ℕ) (l : List A) (d : A) → j < length l → set (mapped j l) j (f (getD (mapped j l) j d)) ≡ mapped (j + 1) l
+  mapped-next j l d h =
+      let n : length (map f (take j l)) ≡ j = length-map (take j l) f ∙ length-take-le j l (omega arith) in
+      let g : drop j l ≡ getD l j d ∷ drop (suc j) l = drop-cons l j d h in
+      rw (g, getD-at (map f (take j l)) (getD l j d) (drop (suc j) l) d j n, set-at (map f (take j l)) (getD l j d) (drop (suc j) l) (f (getD l j d)) j n, add-one, take-suc l j d h, map-append f (take j l) (getD l j d ∷ []))
+      (sym (append-snoc (map f (take j l)) (f (getD l j d)) (drop (suc j) l)))
+
+  pub mapped-end : (j : ℕ) (l : List A) → length l ≤ j → mapped j l ≡ map f l
+  mapped-end j l h = rw (take-all j l h, drop-of-length-le l h, append-nil)
+
+module _ {A : Type 0} (p : A → Bool) where
+  -- those that fail a test taken out: of the first j of l, those that pass are the first k of s, and s is still l from place j on
+  pub record Kept (l : List A) (j : ℕ) (s : List A) (k : ℕ) : Type 0 where
+    pub same : length s ≡ length l
+    pub most : k ≤ j
+    pub kept : take k s ≡ keep p (take j l)
+    pub rest : drop j s ≡ drop j l
+
+  pub keep-start : (l : List A) → Kept l 0 l 0
+  keep-start l = record { same = refl; most = omega arith; kept = refl; rest = refl }
+
+  pub keep-next : (l : List A) (j : ℕ) (s : List A) (k : ℕ) (d : A) → j < length l → Kept l j s k
+      → Kept l (j + 1) (set s k (getD s j d)) (k + bit (p (getD s j d)))
+  keep-next l j s k d h r =
+      let g : getD s j d ≡ getD l j d = getD-same-rest l s j d (r .rest) in
+      let k′ : k < length s = omega (arith, r .same, r .most) in
+      let t : keep p (take (j + 1) l) ≡ keep p (take j l) ++ cond (p (getD s j d)) (getD s j d ∷ []) [] = rw (add-one, take-suc l j d h, g) (keep-append p (take j l) (getD l j d ∷ [])) in
+      record {
+        same = length-set s k (getD s j d) ∙ r .same;
+        most = split (p (getD s j d)) (λ e. rw e (omega (arith, r .most))) (λ e. rw e (omega (arith, r .most)));
+        kept = split (p (getD s j d))
+            (λ e. rw (t, e, add-one, take-suc-set s k (getD s j d) k′, r .kept))
+            (λ e. rw (t, e, add-zero, take-set-le k s k (getD s j d) (omega arith), r .kept, append-nil));
+        rest = drop-set-lt (j + 1) s k (getD s j d) (omega (arith, r .most)) ∙ rw (← drop-drop 1 j s, r .rest) (drop-drop 1 j l);
+      }
+
+  -- k of them are left: those of the first n that pass
+  pub keep-end : (l : List A) (n : ℕ) (s : List A) (k c : ℕ) → Kept l n s k → take c l ≡ take n l → take k s ≡ keep p (take c l)
+  keep-end l n s k c r e = rw e (r .kept)
