@@ -8,7 +8,7 @@ use mathlib.Core.List.{List, [], _∷_, _++_, map, append-assoc, append-nil}
 use native.Mathlib.Omega.{arith}
 use native.Mathlib.Nat.{add-zero}
 use native.Mathlib.Numerals.{add-one}
-use lib.ListN.{length, getD, set, take, drop, length-map, length-take, length-append, length-set, length-drop, take-append-drop, drop-of-length-le}
+use lib.ListN.{length, getD, set, take, drop, length-map, length-take, length-append, length-set, length-drop, take-append-drop, drop-of-length-le, replicate, length-replicate, replicate-append-replicate}
 use lib.Seq.{take-suc, drop-cons, set-at, getD-at, take-all, take-at, length-take-le, drop-length, append-snoc, take-suc-set, take-set-le, drop-set-lt, getD-drop, drop-drop, take-append-le, take-take, drop-append-le}
 use lib.Dec.{ltb, leb}
 use borrow.Author.Tests.{lt-ltb, le-ltb, ltb-true}
@@ -127,3 +127,24 @@ module _ {A : Type 0} (p : A → Bool) where
   -- k of them are left: those of the first n that pass
   pub keep-end : (l : List A) (n : ℕ) (s : List A) (k c : ℕ) → Kept l n s k → take c l ≡ take n l → take k s ≡ keep p (take c l)
   keep-end l n s k c r e = rw e (r .kept)
+
+module _ {A : Type 0} (z : A) where
+  -- the elements from place n on overwritten with z, as far as place i
+  abbrev pub filled : ℕ → ℕ → List A → List A
+  filled n i l = (take n l ++ replicate (i - n) z) ++ drop i l
+
+  length-filled-head : (n i : ℕ) (l : List A) → n ≤ i → i ≤ length l → length (take n l ++ replicate (i - n) z) ≡ i
+  length-filled-head n i l a b = length-append (take n l) (replicate (i - n) z) ∙ omega (arith, length-take-le n l (omega arith), length-replicate (i - n) z)
+
+  pub fill-start : (n : ℕ) (l : List A) → l ≡ filled n n l
+  fill-start n l = let e : n - n ≡ 0 = omega arith in rw (e, append-nil) (sym (take-append-drop n l))
+
+  pub fill-next : (n i : ℕ) (l : List A) → n ≤ i → i < length l → set (filled n i l) i z ≡ filled n (i + 1) l
+  fill-next n i l a b =
+      let g : drop i l ≡ getD l i z ∷ drop (suc i) l = drop-cons l i z b in
+      let k : i + 1 - n ≡ (i - n) + 1 = omega arith in
+      rw (g, set-at (take n l ++ replicate (i - n) z) (getD l i z) (drop (suc i) l) z i (length-filled-head n i l a (omega arith)), k, add-one i, ← replicate-append-replicate (i - n) 1 z)
+      (simp append-assoc)
+
+  pub fill-end : (n i : ℕ) (l : List A) → length l ≤ i → filled n i l ≡ take n l ++ replicate (i - n) z
+  fill-end n i l h = rw (drop-of-length-le l {i = i} h, append-nil)

@@ -1,1 +1,3 @@
 pub mod Message
+pub mod Reply
+pub mod Head

@@ -1,6 +1,24 @@
-use Prim.Native.Nat.{ℕ}
+-- A CEC message: its bytes, its addresses and its opcode (document 01, "The adapter's parts").
+-- Assumes nothing.
+use Prim.Native.Nat.{ℕ, _-_, _/_, _%_, min}
+use mathlib.Core.List.{List, _++_}
+use lib.ListN.{getD, take, replicate}
 use Rattle.message.specs.declared.Message.{Message}
-use Rattle.lists.specs.Tests.{bit}
 
-abbrev pub lengthOf : Message → ℕ
-lengthOf m = m .length
+-- the message of a length and 16 bytes: a length past 16 counts as 16, and bytes past the length are 0
+unfoldable pub message : ℕ → List ℕ → Message
+message n bs = record { length = min n 16; bytes = take (min n 16) bs ++ replicate (16 - min n 16) 0 }
+
+-- the bytes that are sent
+abbrev pub contents : Message → List ℕ
+contents m = take (m .length) (m .bytes)
+
+-- The first byte has the initiator's address in its high digit, the destination's in its low one; the second byte is the opcode.
+abbrev pub initiator : List ℕ → ℕ
+initiator bs = getD bs 0 0 / 16
+
+abbrev pub destination : List ℕ → ℕ
+destination bs = getD bs 0 0 % 16
+
+abbrev pub opcode : List ℕ → ℕ
+opcode bs = getD bs 1 0

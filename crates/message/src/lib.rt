@@ -1,23 +1,85 @@
+// A CEC message by value, and the reply test on messages and on byte slices.
 ghost use mathlib.Core.Path.{_≡_};
-ghost use Rattle.message.specs.Message.{lengthOf};
-use constants::EPERM;
+ghost use Prim.Native.Nat.{min};
+ghost use lib.ListN.{getD, length};
+ghost use Rattle.message.specs.Message.{message, contents, initiator, destination, opcode};
 
+mod reply;
+
+// A length of at most 16, and 16 bytes that are 0 past it.
 #[repr(C)]
 pub struct Message {
     length: u8,
     bytes: [u8; 16],
 }
 
+fn at_most_16(length: u8) -> u8
+    ensures { λ r. ⌜ r ≡ min length 16 ⌝ }
+{
+    if length < 16 { length } else { 16 }
+}
+
 impl Message {
+    // From any length and any 16 bytes: a length past 16 counts as 16, and bytes past the length are 0.
+    pub fn new(length: u8, bytes: [u8; 16]) -> Message
+        ensures { λ r. ⌜ r ≡ message length bytes ⌝ }
+    {
+        let held = at_most_16(length);
+        let mut kept = bytes;
+        let mut i = held as usize;
+        while i < 16 {
+            kept[i] = 0;
+            i += 1;
+        }
+        Message {
+            length: held,
+            bytes: kept,
+        }
+    }
+
     pub fn length(self) -> u8
-        ensures { λ r. ⌜ r ≡ lengthOf self ⌝ }
+        ensures { λ r. ⌜ r ≡ self .length ⌝ }
     {
         self.length
     }
 
-    pub fn perm(self) -> u32
-        ensures { λ r. ⌜ r ≡ 1 ⌝ }
+    pub fn bytes(self) -> [u8; 16]
+        ensures { λ r. ⌜ r ≡ self .bytes ⌝ }
     {
-        EPERM
+        self.bytes
+    }
+
+    pub fn initiator(self) -> u8
+        ensures { λ r. ⌜ r ≡ initiator (self .bytes) ⌝ }
+    {
+        self.bytes[0] / 16
+    }
+
+    pub fn destination(self) -> u8
+        ensures { λ r. ⌜ r ≡ destination (self .bytes) ⌝ }
+    {
+        self.bytes[0] % 16
+    }
+
+    pub fn opcode(self) -> u8
+        ensures { λ r. ⌜ r ≡ opcode (self .bytes) ⌝ }
+    {
+        self.bytes[1]
+    }
+
+    // How many bytes are sent.
+    fn sent_length(self) -> usize
+        ensures { λ r. ⌜ r ≡ length (contents self) ⌝ }
+    {
+        let n = self.length as usize;
+        if n < 16 { n } else { 16 }
+    }
+
+    // The byte at a place, 0 past the length.
+    fn sent_byte(self, i: usize) -> u8
+        ensures { λ r. ⌜ r ≡ getD (contents self) i 0 ⌝ }
+    {
+        let n = self.sent_length();
+        if i < n { self.bytes[i] } else { 0 }
     }
 }

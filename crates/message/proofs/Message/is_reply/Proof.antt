@@ -1,0 +1,24 @@
+-- `message::Message::is_reply` meets its contract. Assumes nothing.
+use Rattle.message.specs.Head.{heads-match}
+use borrow.Author.Needs.{needs}
+use Rattle.message.proofs.Message.is_reply.Statement.{statement}
+use Rattle.message.proofs.Message.is_reply.Tie as tie
+use Rattle.message.proofs.Message.is_reply.Reads as reads
+use Rattle.message.proofs.Message.is_reply.Lts as lts
+use Rattle.message.proofs.Message.head.Reads as head-reads
+use Rattle.message.proofs.reply.heads_match.Reads as heads-match-reads
+
+head-requires : tie.Need-head-requires
+head-requires c κs = search needs
+
+head-requires-2 : tie.Need-head-requires-2
+head-requires-2 c κs = search needs
+
+heads-match-requires : tie.Need-heads-match-requires
+heads-match-requires c κs = search needs
+
+returns : tie.Need-returns
+returns c = rw (c .heads-match .ensures, c .before .head2 .ensures, c .before .before .head .ensures, heads-match)
+
+pub is-reply-spec : {M : Type 1} → statement M
+is-reply-spec = tie.close (tie.spec head-requires head-requires-2 heads-match-requires returns)

@@ -1,0 +1,59 @@
+-- `message::Message::new` meets its contract. Assumes nothing.
+use borrow.Author.Needs.{needs}
+use Prim.Native.Nat.{_≤_, _-_, _+_}
+use mathlib.Core.Path.{_≡_, refl, ap}
+use mathlib.Core.List.{List}
+use native.Mathlib.Omega.{arith}
+use lib.ListN.{length, set}
+use Rattle.lists.specs.Vector.{filled, fill-start, fill-next, fill-end}
+use Rattle.message.specs.Message.{message}
+use Rattle.message.proofs.Message.new.Statement.{statement}
+use Rattle.message.proofs.Message.new.Tie as tie
+use Rattle.message.proofs.Message.new.Reads as reads
+use Rattle.message.proofs.Message.new.Lts as lts
+
+abbrev Inv-loop : tie.InvT-loop
+Inv-loop length held kept₀ i₀ kept i = (held ≤ i) × (i ≤ 16) × (kept ≡ filled 0 held i kept₀)
+
+abbrev μ-loop : tie.MeasureT-loop
+μ-loop length held kept₀ i₀ kept i = 16 - i
+
+at-most-16-requires : tie.Need-at-most-16-requires Inv-loop μ-loop
+at-most-16-requires c κs = search needs
+
+cast-i : tie.Need-cast-i Inv-loop μ-loop
+cast-i c = search needs
+
+loop-holds : tie.Need-loop-holds Inv-loop μ-loop
+loop-holds c = (omega arith, omega arith, fill-start 0 (c .at-most-16 .result) (c .before .args .bytes))
+
+array-write-kept : tie.Need-array-write-kept Inv-loop μ-loop
+array-write-kept c = search needs
+
+add-i : tie.Need-add-i Inv-loop μ-loop
+add-i c = search needs
+
+loop-less : tie.Need-loop-less Inv-loop μ-loop
+loop-less c = search needs
+
+loop-again : tie.Need-loop-again Inv-loop μ-loop
+loop-again c =
+    let l = c .before .loop in (
+      omega arith,
+      omega arith,
+      rw (l .inv .2) (fill-next 0 (c .before .before .at-most-16 .result) (l .i) (c .before .before .before .args .bytes) (omega arith) (search needs)),
+    )
+
+returns : tie.Need-returns Inv-loop μ-loop
+unfolding message
+returns c =
+    let l = c .before .loop in
+    let bs = c .before .before .before .args .bytes in
+    let full : l .i ≡ 16 = omega arith in
+    let long : length bs ≡ 16 = search needs in
+    rw (l .inv .2, full, fill-end 0 (c .before .before .at-most-16 .result) 16 bs (omega arith), c .before .before .at-most-16 .ensures)
+
+pub new-spec : {M : Type 1} → statement M
+new-spec =
+    tie.close
+    (tie.spec Inv-loop μ-loop at-most-16-requires cast-i loop-holds array-write-kept add-i loop-less loop-again returns)

@@ -1,0 +1,39 @@
+-- `message::reply::heads_match` meets its contract. Assumes nothing.
+use borrow.Author.Needs.{needs}
+use Rattle.message.proofs.reply.heads_match.Statement.{statement}
+use Rattle.message.proofs.reply.heads_match.Tie as tie
+use Rattle.message.proofs.reply.heads_match.Reads as reads
+use Rattle.message.proofs.reply.heads_match.Lts as lts
+use Rattle.message.proofs.reply.from_destination.Reads as from-destination-reads
+use Rattle.message.proofs.reply.has_opcode.Reads as has-opcode-reads
+use Rattle.message.proofs.reply.is_answer.Reads as is-answer-reads
+use Rattle.message.proofs.reply.to_initiator.Reads as to-initiator-reads
+
+has-opcode-requires : tie.Need-has-opcode-requires
+has-opcode-requires c κs = search needs
+
+has-opcode-requires-2 : tie.Need-has-opcode-requires-2
+has-opcode-requires-2 c κs = search needs
+
+from-destination-requires : tie.Need-from-destination-requires
+from-destination-requires c κs = search needs
+
+to-initiator-requires : tie.Need-to-initiator-requires
+to-initiator-requires c κs = search needs
+
+is-answer-requires : tie.Need-is-answer-requires
+is-answer-requires c κs = search needs
+
+returns : tie.Need-returns
+returns c = cc
+
+pub heads-match-spec : {M : Type 1} → statement M
+heads-match-spec =
+    tie.close
+    (tie.spec
+    has-opcode-requires
+    has-opcode-requires-2
+    from-destination-requires
+    to-initiator-requires
+    is-answer-requires
+    returns)

@@ -1,0 +1,127 @@
+// The reply test, on messages and on byte slices.
+ghost use mathlib.Core.Path.{_≡_};
+ghost use lib.ListN.{getD};
+ghost use Rattle.message.specs.Message.{contents};
+ghost use Rattle.lists.specs.Tests.{bit};
+ghost use Rattle.message.specs.Head.{headOf, headsMatch};
+ghost use Rattle.message.specs.Reply.{hasOpcode, fromDestination, toInitiator, isFeatureAbort, isWanted, isArcReport, isArcPair, isAnswer, isReply};
+use crate::Message;
+use constants::CEC_LOG_ADDR_BROADCAST;
+use constants::CEC_MSG_FEATURE_ABORT;
+use constants::CEC_MSG_INITIATE_ARC;
+use constants::CEC_MSG_REPORT_ARC_INITIATED;
+use constants::CEC_MSG_REPORT_ARC_TERMINATED;
+
+fn has_opcode(length: usize) -> bool
+    ensures { λ r. ⌜ r ≡ hasOpcode length ⌝ }
+{
+    (2 <= length) & (length <= 16)
+}
+
+fn from_destination(sent: u8, came: u8) -> bool
+    ensures { λ r. ⌜ r ≡ fromDestination sent came ⌝ }
+{
+    (came / 16 == sent % 16) | (sent % 16 == CEC_LOG_ADDR_BROADCAST)
+}
+
+fn to_initiator(sent: u8, came: u8) -> bool
+    ensures { λ r. ⌜ r ≡ toInitiator sent came ⌝ }
+{
+    (came % 16 == sent / 16) | (came % 16 == CEC_LOG_ADDR_BROADCAST)
+}
+
+fn is_feature_abort(sent: u8, came: u8, length: usize, third: u8) -> bool
+    ensures { λ r. ⌜ r ≡ isFeatureAbort sent came length third ⌝ }
+{
+    (came == CEC_MSG_FEATURE_ABORT) & (3 <= length) & (third == sent)
+}
+
+fn is_wanted(came: u8, wanted: u8) -> bool
+    ensures { λ r. ⌜ r ≡ isWanted came wanted ⌝ }
+{
+    (came != CEC_MSG_FEATURE_ABORT) & (came == wanted)
+}
+
+fn is_arc_report(code: u8) -> bool
+    ensures { λ r. ⌜ r ≡ isArcReport code ⌝ }
+{
+    (code == CEC_MSG_REPORT_ARC_INITIATED) | (code == CEC_MSG_REPORT_ARC_TERMINATED)
+}
+
+fn is_arc_pair(sent: u8, came: u8, wanted: u8) -> bool
+    ensures { λ r. ⌜ r ≡ isArcPair sent came wanted ⌝ }
+{
+    (sent == CEC_MSG_INITIATE_ARC) & is_arc_report(wanted) & is_arc_report(came)
+}
+
+fn is_answer(sent: u8, came: u8, length: usize, third: u8, wanted: u8) -> bool
+    ensures { λ r. ⌜ r ≡ isAnswer sent came length third wanted ⌝ }
+{
+    is_feature_abort(sent, came, length, third)
+        | is_wanted(came, wanted)
+        | is_arc_pair(sent, came, wanted)
+}
+
+// The byte at a place, 0 past the end.
+fn byte_at(s: &[u8], i: usize) -> u8
+    ensures { λ r. ⌜ r ≡ getD (now (s .entry)) i 0 ⌝ }
+{
+    if i < s.len() { s[i] } else { 0 }
+}
+
+// What the test looks at: the length, and the first three bytes, 0 where there is none.
+struct Head {
+    length: usize,
+    first: u8,
+    second: u8,
+    third: u8,
+}
+
+fn head_of(s: &[u8]) -> Head
+    ensures { λ r. ⌜ r ≡ headOf (now (s .entry)) ⌝ }
+{
+    Head {
+        length: s.len(),
+        first: byte_at(s, 0),
+        second: byte_at(s, 1),
+        third: byte_at(s, 2),
+    }
+}
+
+fn heads_match(sent: Head, came: Head, wanted: u8) -> bool
+    ensures { λ r. ⌜ r ≡ headsMatch sent came wanted ⌝ }
+{
+    has_opcode(sent.length)
+        & has_opcode(came.length)
+        & from_destination(sent.first, came.first)
+        & to_initiator(sent.first, came.first)
+        & is_answer(sent.second, came.second, came.length, came.third, wanted)
+}
+
+impl Message {
+    fn head(self) -> Head
+        ensures { λ r. ⌜ r ≡ headOf (contents self) ⌝ }
+    {
+        Head {
+            length: self.sent_length(),
+            first: self.sent_byte(0),
+            second: self.sent_byte(1),
+            third: self.sent_byte(2),
+        }
+    }
+
+    // Whether this message is the reply to the one that was sent, with this opcode wanted.
+    pub fn is_reply(self, sent: Message, wanted: u8) -> bool
+        ensures { λ r. ⌜ r ≡ isReply (contents sent) (contents self) wanted ⌝ }
+    {
+        heads_match(sent.head(), self.head(), wanted)
+    }
+}
+
+// The test for the C driver: 1 for a match, 0 for none.
+#[no_mangle]
+pub extern "C" fn cec_reply_match(sent: &[u8], received: &[u8], wanted: u8) -> u8
+    ensures { λ r. ⌜ r ≡ bit (isReply (now (sent .entry)) (now (received .entry)) wanted) ⌝ }
+{
+    heads_match(head_of(sent), head_of(received), wanted) as u8
+}
