@@ -55,3 +55,21 @@ module _ {A : Type 0} where
       let a = rw add-zero at (getD-drop j s 0 d) in
       let b = rw add-zero at (getD-drop j l 0 d) in
       sym a ∙ ap (λ (r : List A). getD r 0 d) e ∙ b
+
+  -- as many as there are, of the first n
+  pub take-taken : (n i : ℕ) (l : List A) → i ≡ length (take n l) → take i l ≡ take n l
+  take-taken n zero [] e = sym (take-nil n)
+  take-taken n (suc i) [] e = absurd (omega (arith, length-take n l0))
+    where
+      l0 : List A
+      l0 = []
+  take-taken zero zero (x ∷ l) e = refl
+  take-taken zero (suc i) (x ∷ l) e = absurd (omega arith)
+  take-taken (suc n) zero (x ∷ l) e = absurd (omega arith)
+  take-taken (suc n) (suc i) (x ∷ l) e = rw (take-taken n i l (omega arith))
+
+  -- within the list, what stands past its end makes no difference
+  pub getD-within : (l : List A) (i : ℕ) (d e : A) → i < length l → getD l i d ≡ getD l i e
+  getD-within [] i d e h = absurd (omega arith)
+  getD-within (x ∷ l) zero d e h = refl
+  getD-within (x ∷ l) (suc i) d e h = getD-within l i d e (omega arith)

@@ -134,3 +134,11 @@ module _ {A : Type 0} where
   drop-without zero (x ∷ l) = refl
   drop-without (suc i) [] = refl
   drop-without (suc i) (x ∷ l) = drop-without i l
+
+  pub without-first : (l : List A) → without 0 l ≡ drop 1 l
+  without-first [] = refl
+  without-first (x ∷ l) = refl
+
+  pub drop-empty : (l : List A) → length l ≡ 0 → l ≡ drop 1 l
+  drop-empty [] e = refl
+  drop-empty (x ∷ l) e = absurd (omega arith)

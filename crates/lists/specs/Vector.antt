@@ -15,7 +15,7 @@ use borrow.Author.Tests.{lt-ltb, le-ltb, ltb-true}
 use Rattle.lists.specs.Tests.{bit, split}
 use Rattle.lists.specs.Sums.{keep, keep-append, length-keep}
 use Rattle.lists.specs.Places.{without, without-append, without-last, length-without, take-without, drop-without}
-use Rattle.lists.specs.Elements.{map-append, getD-past, getD-same-rest, drop-past, drop-take}
+use Rattle.lists.specs.Elements.{map-append, getD-past, getD-same-rest, drop-past, drop-take, take-taken}
 
 module _ {A : Type 0} where
   -- one more at the end of a list that holds at most k; a full one stays
@@ -62,6 +62,10 @@ module _ {A : Type 0} where
 
   pub shift-end : (i j : ℕ) (l : List A) → i ≤ j → j < length l → take j (shifted i j l) ≡ without i (take (suc j) l)
   shift-end i j l a b = take-at (without i (take (suc j) l)) (drop j l) j (length-shift-head i j l a b)
+
+  -- moved down to the end of the list: the element at i is out of it
+  pub shift-out : (i j n : ℕ) (l : List A) → i ≤ j → j + 1 ≡ length (take n l) → take j (shifted i j l) ≡ without i (take n l)
+  shift-out i j n l a e = shift-end i j l a (omega (arith, length-take n l)) ∙ ap (without i) (take-taken n (suc j) l (omega arith))
 
   -- what is before i, and what is past j, stays; what is from i on is shifted by itself
   pub take-shifted : (i j : ℕ) (l : List A) → i ≤ j → j < length l → take i (shifted i j l) ≡ take i l

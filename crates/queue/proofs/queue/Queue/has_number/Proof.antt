@@ -1,0 +1,78 @@
+-- `queue::queue::Queue::has_number` meets its contract. Assumes nothing.
+use mathlib.Core.Path.{_≡_, refl, sym, _∙_}
+use mathlib.Core.Bool.{false}
+use Prim.Native.Nat.{_≤_, _-_}
+use native.Mathlib.Omega.{arith}
+use lib.ListN.{length, take, length-take}
+use borrow.Author.Tests.{eq-eqb, ne-eqb}
+use Rattle.lists.specs.Sums.{any, any-next, any-taken}
+use Rattle.lists.specs.Elements.{take-taken}
+use Rattle.queue.specs.Transmission.{numbered}
+use Rattle.queue.specs.Queue.{queueOf}
+use borrow.Author.Needs.{needs}
+use Rattle.queue.proofs.queue.Queue.has_number.Statement.{statement}
+use Rattle.queue.proofs.queue.Queue.has_number.Tie as tie
+use Rattle.queue.proofs.queue.Queue.has_number.Reads as reads
+use Rattle.queue.proofs.queue.Queue.has_number.Lts as lts
+use Rattle.queue.proofs.queue.Queue.count.Reads as count-reads
+
+abbrev Inv-loop : tie.InvT-loop
+Inv-loop number self n i₀ i = (i ≤ n) × (any (numbered number) (take i (self .slots)) ≡ false)
+
+abbrev μ-loop : tie.MeasureT-loop
+μ-loop number self n i₀ i = n - i
+
+count-requires : tie.Need-count-requires Inv-loop μ-loop
+count-requires c κs = search needs
+
+loop-holds : tie.Need-loop-holds Inv-loop μ-loop
+loop-holds c = (omega arith, refl)
+
+mul-if1 : tie.Need-mul-if1 Inv-loop μ-loop
+mul-if1 c = search needs
+
+element-copy-out-if1 : tie.Need-element-copy-out-if1 Inv-loop μ-loop
+element-copy-out-if1 c = search needs
+
+returns : tie.Need-returns Inv-loop μ-loop
+returns c =
+    let s = c .before .before .before .before .args .t1 in
+    let e = c .before .before .before .count .ensures .0 in
+    let i = c .before .before .loop .i in
+    sym (any-taken (numbered (c .before .before .before .before .args .number)) (s .slots) i (s .count) _ (omega (arith, e, length-take (s .count) (s .slots))) (omega (arith, e, length-take (s .count) (s .slots))) (eq-eqb _ _ (c .if1 .taken)))
+
+add-i : tie.Need-add-i Inv-loop μ-loop
+add-i c = search needs
+
+loop-less : tie.Need-loop-less Inv-loop μ-loop
+loop-less c = search needs
+
+loop-again : tie.Need-loop-again Inv-loop μ-loop
+loop-again c =
+    let s = c .before .before .before .before .args .t1 in
+    let e = c .before .before .before .count .ensures .0 in
+    let l = c .before .before .loop in
+    (omega arith, any-next (numbered (c .before .before .before .before .args .number)) (s .slots) (l .i) _ (omega (arith, e, length-take (s .count) (s .slots))) (l .inv .1) ∙ ne-eqb _ _ (c .if1 .left))
+
+returns-2 : tie.Need-returns-2 Inv-loop μ-loop
+returns-2 c =
+    let s = c .before .before .before .args .t1 in
+    let l = c .before .loop in
+    let e : l .i ≡ length (queueOf s) = omega (arith, c .before .before .count .ensures .0) in
+    rw (← take-taken (s .count) (l .i) (s .slots) e) (sym (l .inv .1))
+
+pub has-number-spec : {M : Type 1} → statement M
+has-number-spec =
+    tie.close
+    (tie.spec
+    Inv-loop
+    μ-loop
+    count-requires
+    loop-holds
+    mul-if1
+    element-copy-out-if1
+    returns
+    add-i
+    loop-less
+    loop-again
+    returns-2)

@@ -1,0 +1,15 @@
+-- `queue::wire::Wire::put` meets its contract. Assumes nothing.
+use borrow.Author.Needs.{needs}
+use Rattle.queue.proofs.wire.Wire.put.Statement.{statement}
+use Rattle.queue.proofs.wire.Wire.put.Tie as tie
+use Rattle.queue.proofs.wire.Wire.put.Reads as reads
+use Rattle.queue.proofs.wire.Wire.put.Lts as lts
+
+returns : tie.Need-returns
+returns c = rw (c .if1 .taken)
+
+returns-2 : tie.Need-returns-2
+returns-2 c = rw (c .if1 .left)
+
+pub put-spec : {M : Type 1} → statement M
+put-spec = tie.close (tie.spec returns returns-2)
