@@ -58,6 +58,14 @@ module _ {A : Type 0} where
       let ih = least-lt k (y ∷ l) (omega arith) in
       split (any (λ z. ltb (k z) (k x)) (y ∷ l)) (λ e. rw e (omega arith)) (λ e. rw e (omega arith))
 
+  pub least-none : (k : A → ℕ) (l : List A) → length l ≡ 0 → least k l ≡ 0
+  least-none k [] e = refl
+  least-none k (x ∷ l) e = absurd (omega arith)
+
+  pub least-one : (k : A → ℕ) (l : List A) → least k (take 1 l) ≡ 0
+  least-one k [] = refl
+  least-one k (x ∷ l) = refl
+
   -- one more element, below all before it
   least-last : (k : A → ℕ) (v : ℕ) (l : List A) (y : A) → any (λ z. ltb (k z) v) l ≡ false → k y < v → least k (l ++ (y ∷ [])) ≡ length l
   least-last k v [] y e h = refl

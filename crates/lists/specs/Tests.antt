@@ -1,6 +1,6 @@
 -- Tests: what follows from one, and a proof by cases on one.
 -- Assumes nothing.
-use Prim.Native.Nat.{ℕ, _≤_, _<_, _+_}
+use Prim.Native.Nat.{ℕ, _-_}
 use mathlib.Core.Bool.{Bool, true, false, cond, _&&_, _||_, not, true≢false}
 use mathlib.Core.Path.{_≡_, refl, sym, _∙_}
 use lib.Dec.{eqb}
@@ -49,3 +49,7 @@ or-false false = refl
 pub byte-bit : (b : Bool) → boolByte b ≡ bit b
 byte-bit true = refl
 byte-bit false = refl
+
+pub bit-not : (b : Bool) → 1 - bit b ≡ bit (not b)
+bit-not true = refl
+bit-not false = refl

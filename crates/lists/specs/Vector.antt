@@ -3,19 +3,19 @@
 -- Assumes nothing.
 use Prim.Native.Nat.{ℕ, zero, suc, _+_, _-_, _≤_, _<_, min}
 use mathlib.Core.Bool.{Bool, true, false, cond}
-use mathlib.Core.Path.{_≡_, refl, ap, _∙_, sym}
+use mathlib.Core.Path.{_≡_, refl, ap, ap₂, _∙_, sym}
 use mathlib.Core.List.{List, [], _∷_, _++_, map, append-assoc, append-nil}
 use native.Mathlib.Omega.{arith}
 use native.Mathlib.Nat.{add-zero}
 use native.Mathlib.Numerals.{add-one}
 use lib.ListN.{length, getD, set, take, drop, length-map, length-take, length-append, length-set, length-drop, take-append-drop, drop-of-length-le, replicate, length-replicate, replicate-append-replicate}
-use lib.Seq.{take-suc, drop-cons, set-at, getD-at, take-all, take-at, length-take-le, drop-length, append-snoc, take-suc-set, take-set-le, drop-set-lt, getD-drop, drop-drop, take-append-le, take-take, drop-append-le}
+use lib.Seq.{take-suc, drop-cons, set-at, getD-at, take-all, take-at, length-take-le, drop-length, append-snoc, take-suc-set, take-set-le, drop-set-lt, getD-drop, drop-drop, take-append-le, take-take, getD-take, drop-append-le}
 use lib.Dec.{ltb, leb}
 use borrow.Author.Tests.{lt-ltb, le-ltb, ltb-true}
 use Rattle.lists.specs.Tests.{bit, split}
-use Rattle.lists.specs.Sums.{keep, keep-append, length-keep}
-use Rattle.lists.specs.Places.{without, without-append, without-last, length-without, take-without, drop-without}
-use Rattle.lists.specs.Elements.{map-append, getD-past, getD-same-rest, drop-past, drop-take, take-taken}
+use Rattle.lists.specs.Sums.{sum, sum-next, any, any-next, any-taken, keep, keep-append, length-keep}
+use Rattle.lists.specs.Places.{first, first-here, first-none, without, without-append, without-last, length-without, take-without, drop-without}
+use Rattle.lists.specs.Elements.{map-append, getD-past, getD-same-rest, drop-past, drop-take, take-taken, getD-within}
 
 module _ {A : Type 0} where
   -- one more at the end of a list that holds at most k; a full one stays
@@ -37,6 +37,42 @@ module _ {A : Type 0} where
       (λ e. rw e (omega (arith, length-append l (x ∷ []), ltb-true)))
       (λ e. rw e h)
 
+-- a loop over the n elements of the list: turn i looks at slot i
+module _ {A : Type 0} (l : List A) (c n : ℕ) (e : n ≡ length (take c l)) where
+  pub within-slots : (i : ℕ) → i < n → i < length l
+  within-slots i h = omega (arith, length-take c l)
+
+  within-count : (i : ℕ) → i < n → i < c
+  within-count i h = omega (arith, length-take c l)
+
+  -- what is read from slot i, whatever stands past an end
+  pub slot-read : (i : ℕ) (d z : A) → i < n → getD (take c l) i d ≡ getD l i z
+  slot-read i d z h = getD-take c l i d (within-count i h) ∙ getD-within l i d z (within-slots i h)
+
+  pub loop-end : (i : ℕ) → i ≡ n → take i l ≡ take c l
+  loop-end i h = take-taken c i l (h ∙ e)
+
+  -- the loop looks for one that passes a test
+  pub any-found : (p : A → Bool) (i : ℕ) (d : A) → i < n → p (getD l i d) ≡ true → any p (take c l) ≡ true
+  any-found p i d h q = any-taken p l i c d (within-count i h) (within-slots i h) q
+
+  pub any-passed : (p : A → Bool) (i : ℕ) (d : A) → i < n → any p (take i l) ≡ false → p (getD l i d) ≡ false → any p (take (i + 1) l) ≡ false
+  any-passed p i d h r q = any-next p l i d (within-slots i h) r ∙ q
+
+  pub any-missed : (p : A → Bool) (i : ℕ) → i ≡ n → any p (take i l) ≡ false → any p (take c l) ≡ false
+  any-missed p i h r = rw (← loop-end i h) r
+
+  pub first-found : (p : A → Bool) (i : ℕ) (d : A) → i < n → any p (take i l) ≡ false → p (getD l i d) ≡ true → first p (take c l) ≡ i
+  first-found p i d h r q = first-here p l i c d (within-count i h) (within-slots i h) r q
+
+  pub first-missed : (p : A → Bool) (i : ℕ) → i ≡ n → any p (take i l) ≡ false → first p (take c l) ≡ n
+  first-missed p i h r = first-none p (take c l) (any-missed p i h r) ∙ sym e
+
+  -- the loop adds up a weight
+  pub sum-passed : (f : A → ℕ) (i : ℕ) (d : A) (s w : ℕ) → i < n → s ≡ sum f (take i l) → w ≡ f (getD l i d) → s + w ≡ sum f (take (i + 1) l)
+  sum-passed f i d s w h a b = ap₂ _+_ a b ∙ sym (sum-next f l i d (within-slots i h))
+
+module _ {A : Type 0} where
   -- the element at i taken out: those after it moved down as far as place j
   abbrev pub shifted : ℕ → ℕ → List A → List A
   shifted i j l = without i (take (suc j) l) ++ drop j l

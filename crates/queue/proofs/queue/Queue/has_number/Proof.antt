@@ -1,4 +1,8 @@
 -- `queue::queue::Queue::has_number` meets its contract. Assumes nothing.
+use mathlib.Core.Path.{_≡_, refl, sym}
+use lib.ListN.{take}
+use Rattle.lists.specs.Sums.{any}
+use Rattle.lists.specs.Vector.{any-found, any-passed, any-missed}
 use mathlib.Core.Path.{_≡_, refl, sym, _∙_}
 use mathlib.Core.Bool.{false}
 use Prim.Native.Nat.{_≤_, _-_}
@@ -36,10 +40,9 @@ element-copy-out-if1 c = search needs
 
 returns : tie.Need-returns Inv-loop μ-loop
 returns c =
-    let s = c .before .before .before .before .args .t1 in
+    let a = c .before .before .before .before .args in
     let e = c .before .before .before .count .ensures .0 in
-    let i = c .before .before .loop .i in
-    sym (any-taken (numbered (c .before .before .before .before .args .number)) (s .slots) i (s .count) _ (omega (arith, e, length-take (s .count) (s .slots))) (omega (arith, e, length-take (s .count) (s .slots))) (eq-eqb _ _ (c .if1 .taken)))
+    sym (any-found (a .t1 .slots) (a .t1 .count) _ e (numbered (a .number)) (c .before .before .loop .i) _ (omega arith) (eq-eqb _ _ (c .if1 .taken)))
 
 add-i : tie.Need-add-i Inv-loop μ-loop
 add-i c = search needs
@@ -49,17 +52,16 @@ loop-less c = search needs
 
 loop-again : tie.Need-loop-again Inv-loop μ-loop
 loop-again c =
-    let s = c .before .before .before .before .args .t1 in
+    let a = c .before .before .before .before .args in
     let e = c .before .before .before .count .ensures .0 in
     let l = c .before .before .loop in
-    (omega arith, any-next (numbered (c .before .before .before .before .args .number)) (s .slots) (l .i) _ (omega (arith, e, length-take (s .count) (s .slots))) (l .inv .1) ∙ ne-eqb _ _ (c .if1 .left))
+    (omega arith, any-passed (a .t1 .slots) (a .t1 .count) _ e (numbered (a .number)) (l .i) _ (omega arith) (l .inv .1) (ne-eqb _ _ (c .if1 .left)))
 
 returns-2 : tie.Need-returns-2 Inv-loop μ-loop
 returns-2 c =
-    let s = c .before .before .before .args .t1 in
+    let a = c .before .before .before .args in
     let l = c .before .loop in
-    let e : l .i ≡ length (queueOf s) = omega (arith, c .before .before .count .ensures .0) in
-    rw (← take-taken (s .count) (l .i) (s .slots) e) (sym (l .inv .1))
+    sym (any-missed (a .t1 .slots) (a .t1 .count) _ (c .before .before .count .ensures .0) (numbered (a .number)) (l .i) (omega arith) (l .inv .1))
 
 pub has-number-spec : {M : Type 1} → statement M
 has-number-spec =

@@ -59,12 +59,13 @@ loop-again c =
     let l = c .before .before .before .before .before .loop in
     let a = c .before .before .before .before .before .before .before .args in
     let o = c .before .before .owed .ensures in
-    let h : l .i < length (a .t1 .slots) = omega (arith, queue-long (a .t1) _ (c .before .before .before .before .before .before .before .good .0)) in
-    (omega arith,
+    let h : l .i < length (a .t1 .slots) = omega (arith, queue-long (a .t1) _ (c .before .before .before .before .before .before .before .good .0)) in (
+      omega arith,
       ap₂ _+_ (l .inv .1) (ap (λ (x : Owed). x .room) (o .0)) ∙ sym (sum-next (roomFor (a .handle)) (a .t1 .slots) (l .i) _ h),
       ap₂ _+_ (l .inv .2) (ap (λ (x : Owed). x .replies) (o .0)) ∙ sym (sum-next (replyFor (a .handle)) (a .t1 .slots) (l .i) _ h),
       omega arith,
-      omega arith)
+      omega arith,
+    )
 
 returns : tie.Need-returns Inv-loop μ-loop
 returns c =

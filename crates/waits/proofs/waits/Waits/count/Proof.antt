@@ -1,0 +1,25 @@
+-- `waits::waits::Waits::count` meets its contract. Assumes nothing.
+use Rattle.waits.proofs.Slots.{waits-long}
+use native.Mathlib.Omega.{arith}
+use mathlib.Core.Path.{sym}
+use lib.Seq.{length-take-le}
+use Rattle.lists.specs.Vector.{length-over}
+use borrow.Author.Needs.{needs}
+use Rattle.waits.proofs.waits.Waits.count.Statement.{statement}
+use Rattle.waits.proofs.waits.Waits.count.Tie as tie
+use Rattle.waits.proofs.waits.Waits.count.Reads as reads
+use Rattle.waits.proofs.waits.Waits.count.Lts as lts
+
+returns : tie.Need-returns
+returns c =
+    let w = c .before .args .self in
+    let long = waits-long w _ (c .before .good .0) in
+    (sym (length-take-le (w .count) (w .slots) (omega arith)), omega arith)
+
+returns-2 : tie.Need-returns-2
+returns-2 c =
+    let w = c .before .args .self in
+    (sym (length-over (w .count) 32 (w .slots) (waits-long w _ (c .before .good .0)) (omega arith)), omega arith)
+
+pub count-spec : {M : Type 1} → statement M
+count-spec = tie.close (tie.spec returns returns-2)

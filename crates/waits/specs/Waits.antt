@@ -1,0 +1,72 @@
+-- All waits of the adapter in one list, oldest first (document 01, "Wire, time and configuration" and "A message from the wire").
+-- Assumes nothing.
+use Prim.Native.Nat.{ℕ, _≤_, _<_}
+use native.Mathlib.Omega.{arith}
+use mathlib.Core.Path.{_≡_}
+use Rattle.lists.specs.Tests.{cond-same}
+use borrow.Author.Tests.{lt-ltb, le-ltb, le-leb, lt-leb}
+use mathlib.Core.Bool.{Bool, true, false, cond, not}
+use mathlib.Core.List.{List, [], _∷_}
+use lib.Dec.{ltb, leb}
+use lib.ListN.{length, getD, take, List·getD-eq-default}
+use Rattle.lists.specs.Sums.{keep}
+use Rattle.lists.specs.Places.{first, least, least-lt, without, without-past}
+use Rattle.message.specs.declared.Message.{Message}
+use Rattle.waits.specs.declared.wait.Wait.{Wait}
+use Rattle.waits.specs.declared.waits.Waits.{Waits}
+use Rattle.waits.specs.declared.waits.Ended.{Ended}
+use Rattle.waits.specs.Wait.{noWait, ownedBy, answeredBy, leftOf}
+
+-- the waits, the oldest first; a count past 32 counts as 32
+abbrev pub waitsOf : Waits → List Wait
+waitsOf w = take (w .count) (w .slots)
+
+-- a list of waits from which one may have been taken out
+pub record Taken : Type 0 where
+  pub found : Bool
+  pub wait : Wait
+  pub rest : List Wait
+
+abbrev pub takenOf : Ended → Taken
+takenOf r = record { found = r .found; wait = r .wait; rest = waitsOf (r .waits) }
+
+-- the wait at a place taken out; past the end there is none
+abbrev pub takenAt : ℕ → List Wait → Taken
+takenAt i ws = record { found = ltb i (length ws); wait = getD ws i noWait; rest = without i ws }
+
+-- "the oldest matching wait ends"
+unfoldable pub matchTaken : Message → List Wait → Taken
+matchTaken m ws = takenAt (first (answeredBy m) ws) ws
+
+-- the wait that time ends next: "least time left first, oldest first where equal", if it has no more left than that
+unfoldable pub dueAt : ℕ → List Wait → ℕ
+dueAt ms ws = cond (leb (leftOf (getD ws (least leftOf ws) noWait)) ms) (least leftOf ws) (length ws)
+
+unfoldable pub dueTaken : ℕ → List Wait → Taken
+dueTaken ms ws = takenAt (dueAt ms ws) ws
+
+-- a close of handle h "ends the waits without entries"
+abbrev pub withoutHandle : ℕ → List Wait → List Wait
+withoutHandle h ws = keep (λ w. not (ownedBy h w)) ws
+
+-- Laws of these.
+pub taken-none : (i : ℕ) (ws : List Wait) → length ws ≤ i → _≡_ {A = Taken} (record { found = false; wait = noWait; rest = ws }) (takenAt i ws)
+taken-none i ws h = rw (le-ltb i (length ws) h, List·getD-eq-default ws noWait {n = i} h, without-past i ws h)
+
+pub taken-some : (i : ℕ) (ws : List Wait) (w : Wait) (rest : List Wait) → i < length ws → w ≡ getD ws i noWait → rest ≡ without i ws
+    → _≡_ {A = Taken} (record { found = true; wait = w; rest = rest }) (takenAt i ws)
+taken-some i ws w rest h a b = rw (lt-ltb i (length ws) h, a, b)
+
+pub due-now : (ms : ℕ) (ws : List Wait) → leftOf (getD ws (least leftOf ws) noWait) ≤ ms → dueAt ms ws ≡ least leftOf ws
+unfolding dueAt
+due-now ms ws h = rw (le-leb (leftOf (getD ws (least leftOf ws) noWait)) ms h)
+
+pub due-later : (ms : ℕ) (ws : List Wait) → ms < leftOf (getD ws (least leftOf ws) noWait) → dueAt ms ws ≡ length ws
+unfolding dueAt
+due-later ms ws h = rw (lt-leb (leftOf (getD ws (least leftOf ws) noWait)) ms h)
+
+-- the least is past the end only of no waits
+pub due-never : (ms : ℕ) (ws : List Wait) → length ws ≤ least leftOf ws → dueAt ms ws ≡ length ws
+unfolding dueAt
+due-never ms [] h = cond-same (leb 0 ms) 0
+due-never ms (w ∷ ws) h = absurd (omega (arith, least-lt leftOf (w ∷ ws) (omega arith)))
