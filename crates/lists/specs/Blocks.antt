@@ -10,9 +10,9 @@ use native.Mathlib.Omega.{arith}
 use native.Mathlib.Nat.{add-zero, zero-add, mul-zero, mul-suc}
 use native.Mathlib.Numerals.{add-one}
 use lib.ListN.{length, getD, set, take, drop, length-take, length-set, length-drop, length-append}
-use lib.Seq.{take-nil, drop-nil, take-take, drop-drop, take-set-le, drop-set-lt, drop-set-add, take-set-lt, take-suc-set, take-append-le, drop-append-le, take-at, length-take-le, set-getD, take-all}
-use Rattle.lists.specs.Elements.{drop-take}
-use Rattle.lists.specs.Places.{without, without-append, length-without}
+use lib.Seq.{take-nil, drop-nil, take-take, drop-drop, take-set-le, drop-set-lt, drop-set-add, take-set-lt, take-suc-set, take-append-le, drop-append-le, take-at, length-take-le, set-getD, take-all, getD-take, getD-drop}
+use Rattle.lists.specs.Elements.{drop-take, getD-within}
+use Rattle.lists.specs.Places.{without-first}
 use Rattle.lists.specs.Vector.{shifted, shift-end, take-shifted, drop-shifted, drop-shifted-past}
 
 next-block : (w h : ℕ) → w * suc h ≡ w + w * h
@@ -98,11 +98,43 @@ module _ {A : Type 0} (w : ℕ) where
     after = rw (past-shift w h m a) (drop-shifted-past (w * h) (w * h + m) (w - m) l (omega arith) b);
   }
 
-  pub parts-take : (cs : List ℕ) (l : List A) (h m : ℕ) → m + 1 ≡ min (getD cs h 0) w → w * h + m < length l
-      → parts (set cs h m) (shifted (w * h) (w * h + m) l) ≡ set (parts cs l) h (without 0 (getD (parts cs l) h []))
-  parts-take cs l h m e b =
+  shift-first : (cs : List ℕ) (l : List A) (h m : ℕ) → m + 1 ≡ min (getD cs h 0) w → w * h + m < length l
+      → parts (set cs h m) (shifted (w * h) (w * h + m) l) ≡ set (parts cs l) h (drop 1 (getD (parts cs l) h []))
+  shift-first cs l h m e b =
       let n : m < length (drop (w * h) l) = omega (arith, length-drop (w * h) l) in
-      let t : take m (block h (shifted (w * h) (w * h + m) l)) ≡ without 0 (take (suc m) (drop (w * h) l)) =
-      rw (drop-shifted (w * h) m l b, take-take m w (shifted 0 m (drop (w * h) l)) (omega arith)) (shift-end 0 m (drop (w * h) l) (omega arith) n) in
+      let t : take m (block h (shifted (w * h) (w * h + m) l)) ≡ drop 1 (take (suc m) (drop (w * h) l)) =
+      rw (drop-shifted (w * h) m l b, take-take m w (shifted 0 m (drop (w * h) l)) (omega arith))
+      (shift-end 0 m (drop (w * h) l) (omega arith) n ∙ without-first (take (suc m) (drop (w * h) l))) in
       parts-set cs l (shifted (w * h) (w * h + m) l) h m (shift-apart h m l (omega arith) b)
       ∙ rw (getD-parts cs l h, take-held (getD cs h 0) (m + 1) (drop (w * h) l) e, add-one) (ap (set (parts cs l) h) t)
+
+  pub parts-take : (cs : List ℕ) (l : List A) (h m j : ℕ) → m + 1 ≡ min (getD cs h 0) w → j ≡ w * h + m → j < length l
+      → parts (set cs h m) (shifted (w * h) j l) ≡ set (parts cs l) h (drop 1 (getD (parts cs l) h []))
+  parts-take cs l h m j e q b = rw q (shift-first cs l h m e (omega arith))
+
+  -- how long a list is
+  pub length-part : (cs : List ℕ) (l : List A) (h : ℕ) → w * h + w ≤ length l → length (getD (parts cs l) h []) ≡ min (getD cs h 0) w
+  length-part cs l h b =
+      rw (getD-parts cs l h)
+      (length-take (getD cs h 0) (block h l) ∙ ap (min (getD cs h 0)) (length-take-le w (drop (w * h) l) (omega (arith, length-drop (w * h) l))))
+
+  -- what is read from place i of list h, whatever stands past an end
+  pub part-read : (cs : List ℕ) (l : List A) (h i : ℕ) (d z : A) → i < length (getD (parts cs l) h []) → getD (getD (parts cs l) h []) i d ≡ getD l (w * h + i) z
+  part-read cs l h i d z b =
+      let e = getD-parts cs l h in
+      let m : i < min (getD cs h 0) (min w (length l - w * h)) =
+      omega (arith, ap length e, length-take (getD cs h 0) (block h l), length-take w (drop (w * h) l), length-drop (w * h) l) in
+      ap (λ (r : List A). getD r i d) e
+      ∙ getD-take (getD cs h 0) (block h l) i d (omega arith)
+      ∙ getD-take w (drop (w * h) l) i d (omega arith)
+      ∙ getD-drop (w * h) l i d
+      ∙ getD-within l (w * h + i) d z (omega arith)
+
+  pub part-first : (cs : List ℕ) (l : List A) (h : ℕ) (d z : A) → 0 < length (getD (parts cs l) h []) → getD (getD (parts cs l) h []) 0 d ≡ getD l (w * h) z
+  part-first cs l h d z b = rw add-zero at (part-read cs l h 0 d z b)
+
+-- a list that has an element is one of the lists
+pub part-within : {A : Type 0} (ls : List (List A)) (h : ℕ) → 0 < length (getD ls h []) → h < length ls
+part-within [] h b = absurd (omega arith)
+part-within (l ∷ ls) zero b = omega arith
+part-within (l ∷ ls) (suc h) b = omega (arith, part-within ls h b)

@@ -1,0 +1,51 @@
+-- The eight inboxes of at most 16 entries, each oldest first (document 01, "The adapter's parts").
+-- Assumes nothing.
+use Prim.Native.Nat.{ℕ, _≤_, _<_}
+use mathlib.Core.Path.{_≡_, sym}
+use mathlib.Core.List.{List, [], _∷_, _++_}
+use lib.ListN.{length, getD, set, drop}
+use lib.Seq.{set-out, set-getD}
+use borrow.Author.Tests.{lt-ltb, le-ltb}
+use Rattle.lists.specs.Blocks.{parts}
+use Rattle.lists.specs.Places.{drop-empty}
+use Rattle.lists.specs.Vector.{put}
+use Rattle.inbox.specs.declared.entry.Entry.{Entry}
+use Rattle.inbox.specs.declared.inboxes.Inboxes.{Inboxes}
+use Rattle.inbox.specs.Entry.{noEntry}
+
+-- the list of eight lists; a count past 16 counts as 16
+abbrev pub inboxesOf : Inboxes → List (List Entry)
+inboxesOf b = parts 16 (b .counts) (b .entries)
+
+-- the inbox of handle h; that of a number over 7 is empty
+abbrev pub inboxOf : List (List Entry) → ℕ → List Entry
+inboxOf is h = getD is h []
+
+-- one more entry at the end of handle h's inbox; a full one stays
+abbrev pub delivered : List (List Entry) → ℕ → Entry → List (List Entry)
+delivered is h e = set is h (put 16 (inboxOf is h) e)
+
+-- the oldest entry of handle h's inbox, or none
+abbrev pub oldest : List (List Entry) → ℕ → Entry
+oldest is h = getD (inboxOf is h) 0 noEntry
+
+-- the oldest entry of handle h's inbox taken out
+abbrev pub oldestTaken : List (List Entry) → ℕ → List (List Entry)
+oldestTaken is h = set is h (drop 1 (inboxOf is h))
+
+-- handle h's inbox emptied
+abbrev pub cleared : List (List Entry) → ℕ → List (List Entry)
+cleared is h = set is h []
+
+-- Laws of these.
+pub delivered-past : (is : List (List Entry)) (h : ℕ) (e : Entry) → length is ≤ h → is ≡ delivered is h e
+delivered-past is h e b = sym (set-out is h (put 16 (inboxOf is h) e) b)
+
+pub delivered-full : (is : List (List Entry)) (h : ℕ) (e : Entry) → 16 ≤ length (inboxOf is h) → is ≡ delivered is h e
+delivered-full is h e b = rw (le-ltb (length (inboxOf is h)) 16 b) (sym (set-getD is h []))
+
+pub delivered-room : (is : List (List Entry)) (h : ℕ) (e : Entry) → length (inboxOf is h) < 16 → set is h (inboxOf is h ++ (e ∷ [])) ≡ delivered is h e
+delivered-room is h e b = rw (lt-ltb (length (inboxOf is h)) 16 b)
+
+pub taken-none : (is : List (List Entry)) (h : ℕ) → length (inboxOf is h) ≡ 0 → is ≡ oldestTaken is h
+taken-none is h b = rw (← drop-empty (inboxOf is h) b) (sym (set-getD is h []))
