@@ -1,16 +1,16 @@
 -- The arrays of the inboxes: that they have 128 and 8 elements is part of what owning the value tells.
 -- Assumes nothing.
-use mathlib.Core.Path.{_≡_, _∙_}
 use mathlib.Core.List.{List}
+use mathlib.Core.Path.{_≡_, _∙_}
 use lib.ListN.{length}
 use mir.Val.{Val}
 use denote.Laws.{Is}
-use Rattle.lists.specs.Elements.{unmapped}
 use Rattle.lists.specs.Blocks.{length-parts}
-use Rattle.inbox.specs.declared.entry.Entry.{Entry}
-use Rattle.inbox.specs.declared.inboxes.Inboxes.{Inboxes}
+use Rattle.lists.specs.Elements.{unmapped}
+use Rattle.entry.specs.declared.Entry.{Entry}
 use Rattle.inbox.specs.Inboxes.{inboxesOf}
-use Rattle.inbox.proofs.inboxes.Inboxes as the
+use Rattle.inbox.specs.declared.Inboxes.{Inboxes}
+use Rattle.inbox.proofs.Inboxes as the
 
 pub entries-long : (b : Inboxes) (vs : List Val) → Is the.the-row b vs → length (b .entries) ≡ 128
 entries-long b vs p = unmapped _ (b .entries) 128 (p .1 .1 .0 .1 .0 .1)

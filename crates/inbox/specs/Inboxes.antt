@@ -1,17 +1,17 @@
 -- The eight inboxes of at most 16 entries, each oldest first (document 01, "The adapter's parts").
 -- Assumes nothing.
 use Prim.Native.Nat.{ℕ, _≤_, _<_}
-use mathlib.Core.Path.{_≡_, sym}
 use mathlib.Core.List.{List, [], _∷_, _++_}
+use mathlib.Core.Path.{_≡_, sym}
 use lib.ListN.{length, getD, set, drop}
 use lib.Seq.{set-out, set-getD}
 use borrow.Author.Tests.{lt-ltb, le-ltb}
 use Rattle.lists.specs.Blocks.{parts}
 use Rattle.lists.specs.Places.{drop-empty}
 use Rattle.lists.specs.Vector.{put}
-use Rattle.inbox.specs.declared.entry.Entry.{Entry}
-use Rattle.inbox.specs.declared.inboxes.Inboxes.{Inboxes}
-use Rattle.inbox.specs.Entry.{noEntry}
+use Rattle.entry.specs.Entry.{noEntry}
+use Rattle.entry.specs.declared.Entry.{Entry}
+use Rattle.inbox.specs.declared.Inboxes.{Inboxes}
 
 -- the list of eight lists; a count past 16 counts as 16
 abbrev pub inboxesOf : Inboxes → List (List Entry)

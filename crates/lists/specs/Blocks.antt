@@ -2,15 +2,15 @@
 -- Assumes nothing.
 use Prim.Native.Nat.{ℕ, zero, suc, _+_, _*_, _-_, _≤_, _<_, min}
 use mathlib.Core.Bool.{Bool, true, false}
-use lib.Dec.{leb}
-use borrow.Author.Tests.{leb-true, leb-false}
+use mathlib.Core.List.{List, [], _∷_, _++_}
 use mathlib.Core.Path.{_≡_, refl, ap, ap₂, _∙_, sym}
-use mathlib.Core.List.{List, [], _∷_, _++_, map, append-assoc, append-nil}
-use native.Mathlib.Omega.{arith}
 use native.Mathlib.Nat.{add-zero, zero-add, mul-zero, mul-suc}
 use native.Mathlib.Numerals.{add-one}
-use lib.ListN.{length, getD, set, take, drop, length-take, length-set, length-drop, length-append}
-use lib.Seq.{take-nil, drop-nil, take-take, drop-drop, take-set-le, drop-set-lt, drop-set-add, take-set-lt, take-suc-set, take-append-le, drop-append-le, take-at, length-take-le, set-getD, take-all, getD-take, getD-drop}
+use native.Mathlib.Omega.{arith}
+use lib.Dec.{leb}
+use lib.ListN.{length, getD, set, take, drop, length-take, length-drop}
+use lib.Seq.{take-take, drop-drop, take-set-le, drop-set-lt, drop-set-add, take-set-lt, take-suc-set, length-take-le, take-all, getD-take, getD-drop}
+use borrow.Author.Tests.{leb-true, leb-false}
 use Rattle.lists.specs.Elements.{drop-take, getD-within}
 use Rattle.lists.specs.Places.{without-first}
 use Rattle.lists.specs.Vector.{shifted, shift-end, take-shifted, drop-shifted, drop-shifted-past}

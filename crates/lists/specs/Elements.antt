@@ -1,13 +1,12 @@
 -- Elements of a list: `map`, `set`, `take` and `getD` together.
 -- Assumes nothing.
-use Prim.Native.Nat.{ℕ, zero, suc, _+_, _≤_, _<_}
-use mathlib.Core.Path.{_≡_, refl, ap, _∙_, sym}
+use Prim.Native.Nat.{ℕ, zero, suc, _+_, _<_}
 use mathlib.Core.List.{List, [], _∷_, _++_, map}
-use native.Mathlib.Omega.{arith}
+use mathlib.Core.Path.{_≡_, refl, ap, _∙_, sym}
 use native.Mathlib.Nat.{zero-add, add-zero, suc-add}
-use native.Mathlib.Numerals.{add-one}
+use native.Mathlib.Omega.{arith}
 use lib.ListN.{length, getD, set, take, drop, length-map, length-take}
-use lib.Seq.{take-suc, drop-cons, set-at, getD-at, take-all, length-take-le, drop-length, append-snoc, getD-append-add, drop-append-add, getD-drop, take-nil}
+use lib.Seq.{getD-append-add, drop-append-add, getD-drop, take-nil}
 
 module _ {A B : Type 0} (f : A → B) where
   pub map-set : (l : List A) (i : ℕ) (a : A) → map f (set l i a) ≡ set (map f l) i (f a)

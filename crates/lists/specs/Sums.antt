@@ -1,14 +1,14 @@
 -- Sums of a weight over a list, those that pass a test, whether one does.
 -- Assumes nothing.
 use Prim.Native.Nat.{ℕ, zero, suc, _+_, _*_, _≤_, _<_}
-use mathlib.Core.Bool.{Bool, true, false, cond, _&&_, _||_, not}
-use mathlib.Core.Path.{_≡_, refl, ap, _∙_, sym}
+use mathlib.Core.Bool.{Bool, true, false, cond, _||_, not}
 use mathlib.Core.List.{List, [], _∷_, _++_, map}
-use native.Mathlib.Omega.{arith}
+use mathlib.Core.Path.{_≡_, refl, ap}
 use native.Mathlib.Numerals.{add-one}
-use lib.ListN.{length, getD, take, length-take}
+use native.Mathlib.Omega.{arith}
+use lib.ListN.{length, getD, take}
 use lib.Seq.{take-suc}
-use Rattle.lists.specs.Tests.{bit, split, clash, neither}
+use Rattle.lists.specs.Tests.{bit, split, neither}
 
 module _ {A : Type 0} where
   -- the sum of a weight over a list

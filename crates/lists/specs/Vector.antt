@@ -1,21 +1,21 @@
 -- A list of at most k elements, kept as `take count slots` in an array of k slots.
 -- Each operation on the array is a loop: what it has made after j turns, how that begins, goes on and ends.
 -- Assumes nothing.
-use Prim.Native.Nat.{ℕ, zero, suc, _+_, _-_, _≤_, _<_, min}
+use Prim.Native.Nat.{ℕ, suc, _+_, _-_, _≤_, _<_}
 use mathlib.Core.Bool.{Bool, true, false, cond}
-use mathlib.Core.Path.{_≡_, refl, ap, ap₂, _∙_, sym}
 use mathlib.Core.List.{List, [], _∷_, _++_, map, append-assoc, append-nil}
-use native.Mathlib.Omega.{arith}
+use mathlib.Core.Path.{_≡_, refl, ap, ap₂, _∙_, sym}
 use native.Mathlib.Nat.{add-zero}
 use native.Mathlib.Numerals.{add-one}
+use native.Mathlib.Omega.{arith}
+use lib.Dec.{ltb}
 use lib.ListN.{length, getD, set, take, drop, length-map, length-take, length-append, length-set, length-drop, take-append-drop, drop-of-length-le, replicate, length-replicate, replicate-append-replicate}
-use lib.Seq.{take-suc, drop-cons, set-at, getD-at, take-all, take-at, length-take-le, drop-length, append-snoc, take-suc-set, take-set-le, drop-set-lt, getD-drop, drop-drop, take-append-le, take-take, getD-take, drop-append-le}
-use lib.Dec.{ltb, leb}
+use lib.Seq.{take-suc, drop-cons, set-at, getD-at, take-all, take-at, length-take-le, append-snoc, take-suc-set, take-set-le, drop-set-lt, getD-drop, drop-drop, take-append-le, take-take, getD-take, drop-append-le}
 use borrow.Author.Tests.{lt-ltb, le-ltb, ltb-true}
-use Rattle.lists.specs.Tests.{bit, split}
-use Rattle.lists.specs.Sums.{sum, sum-next, any, any-next, any-taken, keep, keep-append, length-keep}
-use Rattle.lists.specs.Places.{first, first-here, first-none, without, without-append, without-last, length-without, take-without, drop-without}
 use Rattle.lists.specs.Elements.{map-append, getD-past, getD-same-rest, drop-past, drop-take, take-taken, getD-within}
+use Rattle.lists.specs.Places.{first, first-here, first-none, without, without-append, without-last, length-without, take-without, drop-without}
+use Rattle.lists.specs.Sums.{sum, sum-next, any, any-next, any-taken, keep, keep-append}
+use Rattle.lists.specs.Tests.{bit, split}
 
 module _ {A : Type 0} where
   -- one more at the end of a list that holds at most k; a full one stays

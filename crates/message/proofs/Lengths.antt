@@ -1,7 +1,7 @@
 -- That an array field has its length is part of what owning the value tells.
 -- Assumes nothing.
-use mathlib.Core.Path.{_≡_}
 use mathlib.Core.List.{List}
+use mathlib.Core.Path.{_≡_}
 use lib.ListN.{length}
 use mir.Val.{Val}
 use denote.Laws.{Is}

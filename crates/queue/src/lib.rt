@@ -1,12 +1,142 @@
-// Transmissions: the transmit queue and the wire.
-mod queue;
-mod transmission;
-mod wire;
+// The transmit queue: at most 18 transmissions, first in, first out.
+ghost use Prim.Native.Nat.{_≤_};
+ghost use mathlib.Core.Path.{_≡_};
+ghost use mathlib.Core.List.{[], map};
+ghost use lib.ListN.{length, drop};
+ghost use Rattle.lists.specs.Sums.{any};
+ghost use Rattle.lists.specs.Vector.{put};
+ghost use Rattle.transmission.specs.Transmission.{orphaned, numbered};
+ghost use Rattle.queue.specs.Queue.{queueOf};
+ghost use Rattle.transmission.specs.Transmission.{headOf, owedBy};
+use message::Message;
+use transmission::Owed;
+use transmission::Transmission;
 
-pub use queue::Dequeued;
-pub use queue::Queue;
-pub use transmission::NO_OWNER;
-pub use transmission::Owed;
-pub use transmission::Transmission;
-pub use wire::Sent;
-pub use wire::Wire;
+#[repr(C)]
+pub struct Queue {
+    slots: [Transmission; 18],
+    count: usize,
+}
+
+// A queue, and the transmission that was its head.
+#[repr(C)]
+pub struct Dequeued {
+    pub queue: Queue,
+    pub transmission: Transmission,
+}
+
+impl Queue {
+    pub fn empty() -> Queue
+        ensures { λ r. ⌜ queueOf r ≡ [] ⌝ }
+    {
+        let none = Transmission::ownerless(Message::new(0, [0; 16]));
+        Queue {
+            slots: [none; 18],
+            count: 0,
+        }
+    }
+
+    pub fn count(self) -> usize
+        ensures { λ r. ⌜ r ≡ length (queueOf self) ⌝ }
+        ensures { λ r. ⌜ r ≤ 18 ⌝ }
+    {
+        let n = self.count;
+        if n < 18 { n } else { 18 }
+    }
+
+    // One more at the end; a full queue stays.
+    pub fn put(mut self, transmission: Transmission) -> Queue
+        ensures { λ r. ⌜ queueOf r ≡ put 18 (queueOf self) transmission ⌝ }
+    {
+        let n = self.count;
+        if 18 <= n {
+            return self;
+        }
+        self.slots[n] = transmission;
+        self.count = n + 1;
+        self
+    }
+
+    // The head, or an ownerless empty message.
+    pub fn head(self) -> Transmission
+        ensures { λ r. ⌜ r ≡ headOf (queueOf self) ⌝ }
+    {
+        if self.count == 0 {
+            return Transmission::ownerless(Message::new(0, [0; 16]));
+        }
+        self.slots[0]
+    }
+
+    // The head taken out.
+    pub fn take(mut self) -> Dequeued
+        ensures { λ r. ⌜ (queueOf (r .queue) ≡ drop 1 (queueOf self)) × (r .transmission ≡ headOf (queueOf self)) ⌝ }
+    {
+        let head = self.head();
+        let n = self.count();
+        if n == 0 {
+            return Dequeued {
+                queue: self,
+                transmission: head,
+            };
+        }
+        let mut i = 0;
+        while i + 1 < n {
+            self.slots[i] = self.slots[i + 1];
+            i += 1;
+        }
+        self.count = i;
+        Dequeued {
+            queue: self,
+            transmission: head,
+        }
+    }
+
+    // What is owed to a handle.
+    pub fn owed(self, handle: u8) -> Owed
+        ensures { λ r. ⌜ r ≡ owedBy handle (queueOf self) ⌝ }
+        ensures { λ r. ⌜ r .room ≤ 36 ⌝ }
+        ensures { λ r. ⌜ r .replies ≤ 18 ⌝ }
+    {
+        let n = self.count();
+        let mut room = 0;
+        let mut replies = 0;
+        let mut i = 0;
+        while i < n {
+            let one = self.slots[i].owed(handle);
+            room += one.room;
+            replies += one.replies;
+            i += 1;
+        }
+        Owed {
+            room: room,
+            replies: replies,
+        }
+    }
+
+    // Whether a number is in the queue.
+    pub fn has_number(self, number: u32) -> bool
+        ensures { λ r. ⌜ r ≡ any (numbered number) (queueOf self) ⌝ }
+    {
+        let n = self.count();
+        let mut i = 0;
+        while i < n {
+            if self.slots[i].number == number {
+                return true;
+            }
+            i += 1;
+        }
+        false
+    }
+
+    // What a close of the handle leaves.
+    pub fn orphaned(mut self, handle: u8) -> Queue
+        ensures { λ r. ⌜ queueOf r ≡ map (orphaned handle) (queueOf self) ⌝ }
+    {
+        let mut i = 0;
+        while i < 18 {
+            self.slots[i] = self.slots[i].orphaned(handle);
+            i += 1;
+        }
+        self
+    }
+}

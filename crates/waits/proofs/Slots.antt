@@ -1,15 +1,15 @@
 -- The slots of the waits: that there are 32 is part of what owning the value tells.
 -- Assumes nothing.
-use mathlib.Core.Path.{_≡_}
 use mathlib.Core.Bool.{false}
 use mathlib.Core.List.{List, []}
+use mathlib.Core.Path.{_≡_}
 use lib.ListN.{length}
 use mir.Val.{Val}
 use denote.Laws.{Is}
 use Rattle.lists.specs.Elements.{unmapped}
-use Rattle.waits.specs.declared.wait.Wait.{Wait}
-use Rattle.waits.specs.declared.waits.Waits.{Waits}
-use Rattle.waits.proofs.waits.Waits as the
+use Rattle.wait.specs.declared.Wait.{Wait}
+use Rattle.waits.specs.declared.Waits.{Waits}
+use Rattle.waits.proofs.Waits as the
 
 pub waits-long : (w : Waits) (vs : List Val) → Is the.the-row w vs → length (w .slots) ≡ 32
 waits-long w vs p = unmapped _ (w .slots) 32 (p .1 .1 .0 .1 .0 .1)

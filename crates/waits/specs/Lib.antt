@@ -1,2 +1,1 @@
-pub mod Wait
 pub mod Waits

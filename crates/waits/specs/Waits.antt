@@ -1,21 +1,21 @@
 -- All waits of the adapter in one list, oldest first (document 01, "Wire, time and configuration" and "A message from the wire").
 -- Assumes nothing.
 use Prim.Native.Nat.{ℕ, _≤_, _<_}
-use native.Mathlib.Omega.{arith}
-use mathlib.Core.Path.{_≡_}
-use Rattle.lists.specs.Tests.{cond-same}
-use borrow.Author.Tests.{lt-ltb, le-ltb, le-leb, lt-leb}
 use mathlib.Core.Bool.{Bool, true, false, cond, not}
 use mathlib.Core.List.{List, [], _∷_}
+use mathlib.Core.Path.{_≡_}
+use native.Mathlib.Omega.{arith}
 use lib.Dec.{ltb, leb}
 use lib.ListN.{length, getD, take, List·getD-eq-default}
-use Rattle.lists.specs.Sums.{keep}
+use borrow.Author.Tests.{lt-ltb, le-ltb, le-leb, lt-leb}
 use Rattle.lists.specs.Places.{first, least, least-lt, without, without-past}
+use Rattle.lists.specs.Sums.{keep}
+use Rattle.lists.specs.Tests.{cond-same}
 use Rattle.message.specs.declared.Message.{Message}
-use Rattle.waits.specs.declared.wait.Wait.{Wait}
-use Rattle.waits.specs.declared.waits.Waits.{Waits}
-use Rattle.waits.specs.declared.waits.Ended.{Ended}
-use Rattle.waits.specs.Wait.{noWait, ownedBy, answeredBy, leftOf}
+use Rattle.wait.specs.Wait.{noWait, ownedBy, answeredBy, leftOf}
+use Rattle.wait.specs.declared.Wait.{Wait}
+use Rattle.waits.specs.declared.Ended.{Ended}
+use Rattle.waits.specs.declared.Waits.{Waits}
 
 -- the waits, the oldest first; a count past 32 counts as 32
 abbrev pub waitsOf : Waits → List Wait

@@ -1,7 +1,224 @@
-// Waits for replies, all of the adapter's in one list.
-mod wait;
-mod waits;
+// All waits of the adapter: at most 32 in one list, oldest first.
+ghost use Prim.Native.Nat.{_≤_, _<_};
+ghost use mathlib.Core.Path.{_≡_};
+ghost use mathlib.Core.List.{[], map};
+ghost use lib.Dec.{ltb};
+ghost use lib.ListN.{length, getD};
+ghost use mathlib.Core.Bool.{cond};
+ghost use Rattle.lists.specs.Sums.{any, count};
+ghost use Rattle.lists.specs.Places.{first, least};
+ghost use Rattle.lists.specs.Vector.{put};
+ghost use Rattle.wait.specs.Wait.{noWait, ownedBy, numbered, answeredBy, leftOf, reduced};
+ghost use Rattle.waits.specs.Waits.{waitsOf, takenOf, takenAt, matchTaken, dueAt, dueTaken, withoutHandle};
+use message::Message;
+use wait::Wait;
 
-pub use wait::Wait;
-pub use waits::Ended;
-pub use waits::Waits;
+#[repr(C)]
+pub struct Waits {
+    slots: [Wait; 32],
+    count: usize,
+}
+
+// The waits after one may have been taken out, and that one.
+#[repr(C)]
+pub struct Ended {
+    pub found: bool,
+    pub wait: Wait,
+    pub waits: Waits,
+}
+
+impl Waits {
+    pub fn empty() -> Waits
+        ensures { λ r. ⌜ waitsOf r ≡ [] ⌝ }
+    {
+        Waits {
+            slots: [Wait::none(); 32],
+            count: 0,
+        }
+    }
+
+    pub fn count(self) -> usize
+        ensures { λ r. ⌜ r ≡ length (waitsOf self) ⌝ }
+        ensures { λ r. ⌜ r ≤ 32 ⌝ }
+    {
+        let n = self.count;
+        if n < 32 { n } else { 32 }
+    }
+
+    // One more at the end; a full list stays.
+    pub fn put(mut self, wait: Wait) -> Waits
+        ensures { λ r. ⌜ waitsOf r ≡ put 32 (waitsOf self) wait ⌝ }
+    {
+        let n = self.count;
+        if 32 <= n {
+            return self;
+        }
+        self.slots[n] = wait;
+        self.count = n + 1;
+        self
+    }
+
+    // Without those of the handle.
+    pub fn without_handle(mut self, handle: u8) -> Waits
+        ensures { λ r. ⌜ waitsOf r ≡ withoutHandle handle (waitsOf self) ⌝ }
+    {
+        let n = self.count();
+        let mut kept = 0;
+        let mut i = 0;
+        while i < n {
+            let wait = self.slots[i];
+            self.slots[kept] = wait;
+            kept += 1 - wait.owned_by(handle);
+            i += 1;
+        }
+        self.count = kept;
+        self
+    }
+
+    // The wait at a place taken out.
+    fn take_at(mut self, at: usize) -> Ended
+        ensures { λ r. ⌜ takenOf r ≡ takenAt at (waitsOf self) ⌝ }
+    {
+        let n = self.count();
+        if n <= at {
+            return Ended {
+                found: false,
+                wait: Wait::none(),
+                waits: self,
+            };
+        }
+        let wait = self.slots[at];
+        let mut i = at;
+        while i + 1 < n {
+            self.slots[i] = self.slots[i + 1];
+            i += 1;
+        }
+        self.count = i;
+        Ended {
+            found: true,
+            wait: wait,
+            waits: self,
+        }
+    }
+
+    // The oldest taken out.
+    pub fn take_oldest(self) -> Ended
+        ensures { λ r. ⌜ takenOf r ≡ takenAt 0 (waitsOf self) ⌝ }
+    {
+        self.take_at(0)
+    }
+
+    // The place of the oldest that a message ends; the count where there is none.
+    fn first_match(self, message: Message) -> usize
+        ensures { λ r. ⌜ r ≡ first (answeredBy message) (waitsOf self) ⌝ }
+    {
+        let n = self.count();
+        let mut i = 0;
+        while i < n {
+            if self.slots[i].answered_by(message) {
+                return i;
+            }
+            i += 1;
+        }
+        n
+    }
+
+    // The oldest that a message ends taken out.
+    pub fn take_match(self, message: Message) -> Ended
+        ensures { λ r. ⌜ takenOf r ≡ matchTaken message (waitsOf self) ⌝ }
+    {
+        let at = self.first_match(message);
+        self.take_at(at)
+    }
+
+    // Of two places, that of the less time left, the first where equal.
+    fn sooner(self, at: usize, i: usize) -> usize
+        requires { ⌜ (at < 32) × (i < 32) ⌝ }
+        ensures { λ r. ⌜ r ≡ cond (ltb (leftOf (getD (self .slots) i noWait)) (leftOf (getD (self .slots) at noWait))) i at ⌝ }
+    {
+        if self.slots[i].left < self.slots[at].left {
+            i
+        } else {
+            at
+        }
+    }
+
+    // The place of the least time left, the oldest of equals.
+    fn soonest(self) -> usize
+        ensures { λ r. ⌜ r ≡ least leftOf (waitsOf self) ⌝ }
+    {
+        let n = self.count();
+        if n == 0 {
+            return 0;
+        }
+        let mut at = 0;
+        let mut i = 1;
+        while i < n {
+            at = self.sooner(at, i);
+            i += 1;
+        }
+        at
+    }
+
+    // The place of the next to end within some milliseconds; the count where there is none.
+    fn due_at(self, ms: u32) -> usize
+        ensures { λ r. ⌜ r ≡ dueAt ms (waitsOf self) ⌝ }
+    {
+        let n = self.count();
+        let at = self.soonest();
+        if n <= at {
+            return n;
+        }
+        if self.slots[at].left <= ms { at } else { n }
+    }
+
+    // The next to end within some milliseconds taken out.
+    pub fn take_due(self, ms: u32) -> Ended
+        ensures { λ r. ⌜ takenOf r ≡ dueTaken ms (waitsOf self) ⌝ }
+    {
+        let at = self.due_at(ms);
+        self.take_at(at)
+    }
+
+    // Each with its time left reduced.
+    pub fn reduced(mut self, ms: u32) -> Waits
+        ensures { λ r. ⌜ waitsOf r ≡ map (reduced ms) (waitsOf self) ⌝ }
+    {
+        let mut i = 0;
+        while i < 32 {
+            self.slots[i] = self.slots[i].reduced(ms);
+            i += 1;
+        }
+        self
+    }
+
+    // How many are the handle's.
+    pub fn count_of(self, handle: u8) -> usize
+        ensures { λ r. ⌜ r ≡ count (ownedBy handle) (waitsOf self) ⌝ }
+        ensures { λ r. ⌜ r ≤ 32 ⌝ }
+    {
+        let n = self.count();
+        let mut of = 0;
+        let mut i = 0;
+        while i < n {
+            of += self.slots[i].owned_by(handle);
+            i += 1;
+        }
+        of
+    }
+
+    // Whether a number is waiting.
+    pub fn has_number(self, number: u32) -> bool
+        ensures { λ r. ⌜ r ≡ any (numbered number) (waitsOf self) ⌝ }
+    {
+        let n = self.count();
+        let mut i = 0;
+        while i < n {
+            if self.slots[i].number == number {
+                return true;
+            }
+            i += 1;
+        }
+        false
+    }
+}

@@ -2,10 +2,6 @@
 use borrow.Author.Needs.{needs}
 use Rattle.message.proofs.Message.head.Statement.{statement}
 use Rattle.message.proofs.Message.head.Tie as tie
-use Rattle.message.proofs.Message.head.Reads as reads
-use Rattle.message.proofs.Message.head.Lts as lts
-use Rattle.message.proofs.Message.sent_byte.Reads as sent-byte-reads
-use Rattle.message.proofs.Message.sent_length.Reads as sent-length-reads
 
 sent-length-requires : tie.Need-sent-length-requires
 sent-length-requires c κs = search needs
@@ -20,7 +16,7 @@ sent-byte-requires-3 : tie.Need-sent-byte-requires-3
 sent-byte-requires-3 c κs = search needs
 
 returns : tie.Need-returns
-returns c = cc
+returns c = rw (c .sent-byte3 .ensures, c .before .sent-byte2 .ensures, c .before .before .sent-byte .ensures, c .before .before .before .sent-length .ensures)
 
 pub head-spec : {M : Type 1} → statement M
 head-spec =

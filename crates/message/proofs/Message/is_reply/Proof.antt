@@ -1,12 +1,8 @@
 -- `message::Message::is_reply` meets its contract. Assumes nothing.
-use Rattle.message.specs.Head.{heads-match}
 use borrow.Author.Needs.{needs}
+use Rattle.message.specs.Head.{heads-match}
 use Rattle.message.proofs.Message.is_reply.Statement.{statement}
 use Rattle.message.proofs.Message.is_reply.Tie as tie
-use Rattle.message.proofs.Message.is_reply.Reads as reads
-use Rattle.message.proofs.Message.is_reply.Lts as lts
-use Rattle.message.proofs.Message.head.Reads as head-reads
-use Rattle.message.proofs.reply.heads_match.Reads as heads-match-reads
 
 head-requires : tie.Need-head-requires
 head-requires c κs = search needs

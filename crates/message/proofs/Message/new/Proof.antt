@@ -1,16 +1,13 @@
 -- `message::Message::new` meets its contract. Assumes nothing.
-use borrow.Author.Needs.{needs}
-use Prim.Native.Nat.{_≤_, _-_, _+_}
-use mathlib.Core.Path.{_≡_, refl, ap}
-use mathlib.Core.List.{List}
+use Prim.Native.Nat.{_≤_, _-_}
+use mathlib.Core.Path.{_≡_}
 use native.Mathlib.Omega.{arith}
-use lib.ListN.{length, set}
+use lib.ListN.{length}
+use borrow.Author.Needs.{needs}
 use Rattle.lists.specs.Vector.{filled, fill-start, fill-next, fill-end}
 use Rattle.message.specs.Message.{message}
 use Rattle.message.proofs.Message.new.Statement.{statement}
 use Rattle.message.proofs.Message.new.Tie as tie
-use Rattle.message.proofs.Message.new.Reads as reads
-use Rattle.message.proofs.Message.new.Lts as lts
 
 abbrev Inv-loop : tie.InvT-loop
 Inv-loop length held kept₀ i₀ kept i = (held ≤ i) × (i ≤ 16) × (kept ≡ filled 0 held i kept₀)

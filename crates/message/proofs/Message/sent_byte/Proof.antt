@@ -1,16 +1,13 @@
 -- `message::Message::sent_byte` meets its contract. Assumes nothing.
 use mathlib.Core.Path.{sym}
 use native.Mathlib.Omega.{arith}
-use lib.Seq.{getD-take}
 use lib.ListN.{length-take, List·getD-eq-default}
-use Rattle.message.proofs.Lengths.{message-long}
-use Rattle.message.specs.Message.{contents}
+use lib.Seq.{getD-take}
 use borrow.Author.Needs.{needs}
+use Rattle.message.specs.Message.{contents}
+use Rattle.message.proofs.Lengths.{message-long}
 use Rattle.message.proofs.Message.sent_byte.Statement.{statement}
 use Rattle.message.proofs.Message.sent_byte.Tie as tie
-use Rattle.message.proofs.Message.sent_byte.Reads as reads
-use Rattle.message.proofs.Message.sent_byte.Lts as lts
-use Rattle.message.proofs.Message.sent_length.Reads as sent-length-reads
 
 sent-length-requires : tie.Need-sent-length-requires
 sent-length-requires c κs = search needs

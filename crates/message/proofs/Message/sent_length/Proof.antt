@@ -1,14 +1,12 @@
 -- `message::Message::sent_length` meets its contract. Assumes nothing.
 use mathlib.Core.Path.{sym}
+use native.Mathlib.Omega.{arith}
 use lib.Seq.{length-take-le}
+use borrow.Author.Needs.{needs}
 use Rattle.lists.specs.Vector.{length-over}
 use Rattle.message.proofs.Lengths.{message-long}
-use native.Mathlib.Omega.{arith}
-use borrow.Author.Needs.{needs}
 use Rattle.message.proofs.Message.sent_length.Statement.{statement}
 use Rattle.message.proofs.Message.sent_length.Tie as tie
-use Rattle.message.proofs.Message.sent_length.Reads as reads
-use Rattle.message.proofs.Message.sent_length.Lts as lts
 
 cast-n : tie.Need-cast-n
 cast-n c = search needs

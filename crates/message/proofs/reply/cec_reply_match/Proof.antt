@@ -1,13 +1,9 @@
 -- `message::reply::cec_reply_match` meets its contract. Assumes nothing.
+use borrow.Author.Needs.{needs}
 use Rattle.lists.specs.Tests.{byte-bit}
 use Rattle.message.specs.Head.{heads-match}
-use borrow.Author.Needs.{needs}
 use Rattle.message.proofs.reply.cec_reply_match.Statement.{statement}
 use Rattle.message.proofs.reply.cec_reply_match.Tie as tie
-use Rattle.message.proofs.reply.cec_reply_match.Reads as reads
-use Rattle.message.proofs.reply.cec_reply_match.Lts as lts
-use Rattle.message.proofs.reply.head_of.Reads as head-of-reads
-use Rattle.message.proofs.reply.heads_match.Reads as heads-match-reads
 
 head-of-requires : tie.Need-head-of-requires
 head-of-requires c κs = search needs

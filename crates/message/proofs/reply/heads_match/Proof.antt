@@ -2,12 +2,6 @@
 use borrow.Author.Needs.{needs}
 use Rattle.message.proofs.reply.heads_match.Statement.{statement}
 use Rattle.message.proofs.reply.heads_match.Tie as tie
-use Rattle.message.proofs.reply.heads_match.Reads as reads
-use Rattle.message.proofs.reply.heads_match.Lts as lts
-use Rattle.message.proofs.reply.from_destination.Reads as from-destination-reads
-use Rattle.message.proofs.reply.has_opcode.Reads as has-opcode-reads
-use Rattle.message.proofs.reply.is_answer.Reads as is-answer-reads
-use Rattle.message.proofs.reply.to_initiator.Reads as to-initiator-reads
 
 has-opcode-requires : tie.Need-has-opcode-requires
 has-opcode-requires c κs = search needs
@@ -25,7 +19,7 @@ is-answer-requires : tie.Need-is-answer-requires
 is-answer-requires c κs = search needs
 
 returns : tie.Need-returns
-returns c = cc
+returns c = rw (c .is-answer .ensures, c .before .to-initiator .ensures, c .before .before .from-destination .ensures, c .before .before .before .has-opcode2 .ensures, c .before .before .before .before .has-opcode .ensures)
 
 pub heads-match-spec : {M : Type 1} → statement M
 heads-match-spec =

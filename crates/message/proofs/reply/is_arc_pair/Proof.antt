@@ -2,9 +2,6 @@
 use borrow.Author.Needs.{needs}
 use Rattle.message.proofs.reply.is_arc_pair.Statement.{statement}
 use Rattle.message.proofs.reply.is_arc_pair.Tie as tie
-use Rattle.message.proofs.reply.is_arc_pair.Reads as reads
-use Rattle.message.proofs.reply.is_arc_pair.Lts as lts
-use Rattle.message.proofs.reply.is_arc_report.Reads as is-arc-report-reads
 
 is-arc-report-requires : tie.Need-is-arc-report-requires
 is-arc-report-requires c κs = search needs
@@ -13,7 +10,7 @@ is-arc-report-requires-2 : tie.Need-is-arc-report-requires-2
 is-arc-report-requires-2 c κs = search needs
 
 returns : tie.Need-returns
-returns c = cc
+returns c = rw (c .is-arc-report2 .ensures, c .before .is-arc-report .ensures)
 
 pub is-arc-pair-spec : {M : Type 1} → statement M
 is-arc-pair-spec = tie.close (tie.spec is-arc-report-requires is-arc-report-requires-2 returns)

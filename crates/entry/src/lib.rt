@@ -1,0 +1,116 @@
+// An entry of an inbox, one constructor for each kind.
+ghost use mathlib.Core.Path.{_≡_};
+ghost use Rattle.entry.specs.Entry.{noCounts, result, resultCopy, received, reply, featureAbortReply, timedOut, aborted, messageCopy, noEntry};
+use constants::CEC_RX_STATUS_ABORTED;
+use constants::CEC_RX_STATUS_FEATURE_ABORT;
+use constants::CEC_RX_STATUS_OK;
+use constants::CEC_RX_STATUS_TIMEOUT;
+use message::Message;
+
+// How often each thing went wrong on the wire.
+#[repr(C)]
+pub struct Counts {
+    pub arb_lost: u8,
+    pub nack: u8,
+    pub low_drive: u8,
+    pub error: u8,
+}
+
+#[repr(C)]
+pub struct Entry {
+    pub sequence: u32,
+    pub tx_status: u8,
+    pub rx_status: u8,
+    pub message: Message,
+    pub counts: Counts,
+}
+
+impl Counts {
+    pub fn none() -> Counts
+        ensures { λ r. ⌜ r ≡ noCounts ⌝ }
+    {
+        Counts {
+            arb_lost: 0,
+            nack: 0,
+            low_drive: 0,
+            error: 0,
+        }
+    }
+}
+
+impl Entry {
+    // The result of a transmit, for its owner.
+    pub fn result(number: u32, status: u8, counts: Counts, sent: Message) -> Entry
+        ensures { λ r. ⌜ r ≡ result number status counts sent ⌝ }
+    {
+        Entry {
+            sequence: number,
+            tx_status: status,
+            rx_status: 0,
+            message: sent,
+            counts: counts,
+        }
+    }
+
+    // The copy of a result, for a monitor.
+    pub fn result_copy(status: u8, counts: Counts, sent: Message) -> Entry
+        ensures { λ r. ⌜ r ≡ resultCopy status counts sent ⌝ }
+    {
+        Entry::result(0, status, counts, sent)
+    }
+
+    // A receive status and a message alone.
+    fn received(number: u32, status: u8, message: Message) -> Entry
+        ensures { λ r. ⌜ r ≡ received number status message ⌝ }
+    {
+        Entry {
+            sequence: number,
+            tx_status: 0,
+            rx_status: status,
+            message: message,
+            counts: Counts::none(),
+        }
+    }
+
+    // The reply to a transmit.
+    pub fn reply(number: u32, came: Message) -> Entry
+        ensures { λ r. ⌜ r ≡ reply number came ⌝ }
+    {
+        Entry::received(number, CEC_RX_STATUS_OK, came)
+    }
+
+    // The reply to a transmit, where it is a Feature Abort.
+    pub fn feature_abort_reply(number: u32, came: Message) -> Entry
+        ensures { λ r. ⌜ r ≡ featureAbortReply number came ⌝ }
+    {
+        Entry::received(number, CEC_RX_STATUS_OK + CEC_RX_STATUS_FEATURE_ABORT, came)
+    }
+
+    // No reply came in time.
+    pub fn timed_out(number: u32, sent: Message) -> Entry
+        ensures { λ r. ⌜ r ≡ timedOut number sent ⌝ }
+    {
+        Entry::received(number, CEC_RX_STATUS_TIMEOUT, sent)
+    }
+
+    // The wait for a reply was given up.
+    pub fn aborted(number: u32, sent: Message) -> Entry
+        ensures { λ r. ⌜ r ≡ aborted number sent ⌝ }
+    {
+        Entry::received(number, CEC_RX_STATUS_ABORTED, sent)
+    }
+
+    // The copy of a message, for a follower or a monitor.
+    pub fn message_copy(came: Message) -> Entry
+        ensures { λ r. ⌜ r ≡ messageCopy came ⌝ }
+    {
+        Entry::received(0, CEC_RX_STATUS_OK, came)
+    }
+
+    // Where there is none.
+    pub fn none() -> Entry
+        ensures { λ r. ⌜ r ≡ noEntry ⌝ }
+    {
+        Entry::received(0, 0, Message::new(0, [0; 16]))
+    }
+}

@@ -1,0 +1,72 @@
+-- `queue::Queue::orphaned` meets its contract. Assumes nothing.
+use Prim.Native.Nat.{_≤_, _-_}
+use mathlib.Core.Path.{_≡_, refl, sym, ap}
+use native.Mathlib.Omega.{arith}
+use borrow.Author.Needs.{needs}
+use Rattle.lists.specs.Elements.{map-take}
+use Rattle.lists.specs.Vector.{mapped, mapped-next, mapped-end}
+use Rattle.transmission.specs.Transmission.{orphaned}
+use Rattle.queue.proofs.Slots.{queue-long, withSlots}
+use Rattle.queue.proofs.Queue.orphaned.Statement.{statement}
+use Rattle.queue.proofs.Queue.orphaned.Tie as tie
+
+abbrev Inv-loop : tie.InvT-loop
+Inv-loop handle self₀ i₀ self i = (i ≤ 18) × (self ≡ withSlots self₀ (mapped (orphaned handle) i (self₀ .slots)))
+
+abbrev μ-loop : tie.MeasureT-loop
+μ-loop handle self₀ i₀ self i = 18 - i
+
+loop-holds : tie.Need-loop-holds Inv-loop μ-loop
+loop-holds c = (omega arith, refl)
+
+mul-orphaned : tie.Need-mul-orphaned Inv-loop μ-loop
+mul-orphaned c = search needs
+
+element-copy-out-orphaned : tie.Need-element-copy-out-orphaned Inv-loop μ-loop
+element-copy-out-orphaned c = search needs
+
+orphaned-requires : tie.Need-orphaned-requires Inv-loop μ-loop
+orphaned-requires c κs = search needs
+
+mul-t11 : tie.Need-mul-t11 Inv-loop μ-loop
+mul-t11 c = search needs
+
+element-set-from-self : tie.Need-element-set-from-self Inv-loop μ-loop
+element-set-from-self c = search needs
+
+add-i : tie.Need-add-i Inv-loop μ-loop
+add-i c = search needs
+
+loop-less : tie.Need-loop-less Inv-loop μ-loop
+loop-less c = search needs
+
+loop-again : tie.Need-loop-again Inv-loop μ-loop
+loop-again c =
+    let l = c .before .before .before .loop in
+    let a = c .before .before .before .before .args in
+    let long = queue-long (a .t1) _ (c .before .before .before .before .good .0) in
+    (omega arith, rw (c .orphaned .ensures, l .inv .1) (ap (withSlots (a .t1)) (mapped-next (orphaned (a .handle)) (l .i) (a .t1 .slots) _ (omega arith))))
+
+returns : tie.Need-returns Inv-loop μ-loop
+returns c =
+    let a = c .before .before .args in
+    let l = c .before .loop in
+    let long = queue-long (a .t1) _ (c .before .before .good .0) in
+    rw (l .inv .1, mapped-end (orphaned (a .handle)) (l .i) (a .t1 .slots) (omega arith)) (sym (map-take (orphaned (a .handle)) (a .t1 .count) (a .t1 .slots)))
+
+pub orphaned-spec : {M : Type 1} → statement M
+orphaned-spec =
+    tie.close
+    (tie.spec
+    Inv-loop
+    μ-loop
+    loop-holds
+    mul-orphaned
+    element-copy-out-orphaned
+    orphaned-requires
+    mul-t11
+    element-set-from-self
+    add-i
+    loop-less
+    loop-again
+    returns)

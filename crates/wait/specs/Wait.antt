@@ -1,0 +1,34 @@
+-- A wait for the reply to a message that was sent (document 01, "Wire, time and configuration").
+-- Assumes nothing.
+use Prim.Native.Nat.{ℕ, _-_}
+use mathlib.Core.Bool.{Bool, false}
+use lib.Dec.{eqb}
+use lib.ListN.{replicate}
+use Rattle.message.specs.Message.{message, contents}
+use Rattle.message.specs.Reply.{isReply}
+use Rattle.message.specs.declared.Message.{Message}
+use Rattle.wait.specs.declared.Wait.{Wait}
+
+-- where there is none
+abbrev pub noWait : Wait
+noWait = record { owner = 0; number = 0; left = 0; reply = 0; «to_followers» = false; sent = message 0 (replicate 16 0) }
+
+-- whether it is of handle h
+abbrev pub ownedBy : ℕ → Wait → Bool
+ownedBy h w = eqb (w .owner) h
+
+-- whether it has this number
+abbrev pub numbered : ℕ → Wait → Bool
+numbered n w = eqb (w .number) n
+
+-- whether the message ends it: document 01's "A match"
+abbrev pub answeredBy : Message → Wait → Bool
+answeredBy m w = isReply (contents (w .sent)) (contents m) (w .reply)
+
+-- its time left
+abbrev pub leftOf : Wait → ℕ
+leftOf w = w .left
+
+-- with its time left reduced
+abbrev pub reduced : ℕ → Wait → Wait
+reduced ms w = record { owner = w .owner; number = w .number; left = w .left - ms; reply = w .reply; «to_followers» = w .«to_followers»; sent = w .sent }

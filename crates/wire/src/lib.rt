@@ -1,0 +1,110 @@
+// The wire: at most one transmission.
+ghost use Prim.Native.Nat.{_≤_};
+ghost use lib.Dec.{ltb};
+ghost use mathlib.Core.Path.{_≡_};
+ghost use mathlib.Core.List.{[], map};
+ghost use lib.ListN.{length, drop};
+ghost use Rattle.lists.specs.Sums.{any};
+ghost use Rattle.lists.specs.Vector.{put};
+ghost use Rattle.transmission.specs.Transmission.{orphaned, numbered};
+ghost use Rattle.wire.specs.Wire.{wireOf};
+ghost use Rattle.transmission.specs.Transmission.{headOf, owedBy};
+use message::Message;
+use transmission::Owed;
+use transmission::Transmission;
+
+#[repr(C)]
+pub struct Wire {
+    busy: bool,
+    slot: Transmission,
+}
+
+// A wire, and the transmission that was on it.
+#[repr(C)]
+pub struct Sent {
+    pub wire: Wire,
+    pub transmission: Transmission,
+}
+
+impl Wire {
+    pub fn idle() -> Wire
+        ensures { λ r. ⌜ wireOf r ≡ [] ⌝ }
+    {
+        Wire {
+            busy: false,
+            slot: Transmission::ownerless(Message::new(0, [0; 16])),
+        }
+    }
+
+    pub fn is_busy(self) -> bool
+        ensures { λ r. ⌜ r ≡ ltb 0 (length (wireOf self)) ⌝ }
+    {
+        self.busy
+    }
+
+    // Taken by a transmission; a busy wire stays.
+    pub fn put(mut self, transmission: Transmission) -> Wire
+        ensures { λ r. ⌜ wireOf r ≡ put 1 (wireOf self) transmission ⌝ }
+    {
+        if self.busy {
+            return self;
+        }
+        self.busy = true;
+        self.slot = transmission;
+        self
+    }
+
+    // The transmission, or an ownerless empty message.
+    pub fn head(self) -> Transmission
+        ensures { λ r. ⌜ r ≡ headOf (wireOf self) ⌝ }
+    {
+        if self.busy {
+            self.slot
+        } else {
+            Transmission::ownerless(Message::new(0, [0; 16]))
+        }
+    }
+
+    // The transmission taken off.
+    pub fn take(mut self) -> Sent
+        ensures { λ r. ⌜ (wireOf (r .wire) ≡ drop 1 (wireOf self)) × (r .transmission ≡ headOf (wireOf self)) ⌝ }
+    {
+        let head = self.head();
+        self.busy = false;
+        Sent {
+            wire: self,
+            transmission: head,
+        }
+    }
+
+    // What is owed to a handle.
+    pub fn owed(self, handle: u8) -> Owed
+        ensures { λ r. ⌜ r ≡ owedBy handle (wireOf self) ⌝ }
+        ensures { λ r. ⌜ r .room ≤ 2 ⌝ }
+        ensures { λ r. ⌜ r .replies ≤ 1 ⌝ }
+    {
+        if self.busy {
+            self.slot.owed(handle)
+        } else {
+            Owed {
+                room: 0,
+                replies: 0,
+            }
+        }
+    }
+
+    // Whether a number is on the wire.
+    pub fn has_number(self, number: u32) -> bool
+        ensures { λ r. ⌜ r ≡ any (numbered number) (wireOf self) ⌝ }
+    {
+        self.busy & (self.slot.number == number)
+    }
+
+    // What a close of the handle leaves.
+    pub fn orphaned(mut self, handle: u8) -> Wire
+        ensures { λ r. ⌜ wireOf r ≡ map (orphaned handle) (wireOf self) ⌝ }
+    {
+        self.slot = self.slot.orphaned(handle);
+        self
+    }
+}
