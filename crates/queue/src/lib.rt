@@ -8,7 +8,6 @@ ghost use Rattle.lists.specs.Vector.{put};
 ghost use Rattle.transmission.specs.Transmission.{orphaned, numbered};
 ghost use Rattle.queue.specs.Queue.{queueOf};
 ghost use Rattle.transmission.specs.Transmission.{headOf, owedBy};
-use message::Message;
 use transmission::Owed;
 use transmission::Transmission;
 
@@ -29,9 +28,8 @@ impl Queue {
     pub fn empty() -> Queue
         ensures { λ r. ⌜ queueOf r ≡ [] ⌝ }
     {
-        let none = Transmission::ownerless(Message::new(0, [0; 16]));
         Queue {
-            slots: [none; 18],
+            slots: [Transmission::none(); 18],
             count: 0,
         }
     }
@@ -57,12 +55,12 @@ impl Queue {
         self
     }
 
-    // The head, or an ownerless empty message.
+    // The head, or none.
     pub fn head(self) -> Transmission
         ensures { λ r. ⌜ r ≡ headOf (queueOf self) ⌝ }
     {
         if self.count == 0 {
-            return Transmission::ownerless(Message::new(0, [0; 16]));
+            return Transmission::none();
         }
         self.slots[0]
     }

@@ -20,7 +20,7 @@ noOwner = 255
 abbrev pub ownerless : Message → Transmission
 ownerless m = record { number = 0; owner = noOwner; «wants_reply» = false; reply = 0; timeout = 0; «to_followers» = false; message = m }
 
--- where there is none
+-- where there is none: an empty message
 abbrev pub noTransmission : Transmission
 noTransmission = ownerless (message 0 (replicate 16 0))
 

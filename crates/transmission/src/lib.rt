@@ -1,7 +1,7 @@
 // A message to send, and who is owed what for it.
 ghost use Prim.Native.Nat.{_≤_};
 ghost use mathlib.Core.Path.{_≡_};
-ghost use Rattle.transmission.specs.Transmission.{ownerless, orphaned, owedFor};
+ghost use Rattle.transmission.specs.Transmission.{ownerless, noTransmission, orphaned, owedFor};
 use message::Message;
 
 // An owner over 7 is none; this number stands for it.
@@ -38,6 +38,13 @@ impl Transmission {
             to_followers: false,
             message: message,
         }
+    }
+
+    // Where there is none: an ownerless empty message.
+    pub fn none() -> Transmission
+        ensures { λ r. ⌜ r ≡ noTransmission ⌝ }
+    {
+        Transmission::ownerless(Message::new(0, [0; 16]))
     }
 
     // What a close of the handle leaves of it.

@@ -9,7 +9,6 @@ ghost use Rattle.lists.specs.Vector.{put};
 ghost use Rattle.transmission.specs.Transmission.{orphaned, numbered};
 ghost use Rattle.wire.specs.Wire.{wireOf};
 ghost use Rattle.transmission.specs.Transmission.{headOf, owedBy};
-use message::Message;
 use transmission::Owed;
 use transmission::Transmission;
 
@@ -32,7 +31,7 @@ impl Wire {
     {
         Wire {
             busy: false,
-            slot: Transmission::ownerless(Message::new(0, [0; 16])),
+            slot: Transmission::none(),
         }
     }
 
@@ -54,14 +53,14 @@ impl Wire {
         self
     }
 
-    // The transmission, or an ownerless empty message.
+    // The transmission, or none.
     pub fn head(self) -> Transmission
         ensures { λ r. ⌜ r ≡ headOf (wireOf self) ⌝ }
     {
         if self.busy {
             self.slot
         } else {
-            Transmission::ownerless(Message::new(0, [0; 16]))
+            Transmission::none()
         }
     }
 

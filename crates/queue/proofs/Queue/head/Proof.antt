@@ -9,14 +9,11 @@ use Rattle.queue.proofs.Slots.{queue-long}
 use Rattle.queue.proofs.Queue.head.Statement.{statement}
 use Rattle.queue.proofs.Queue.head.Tie as tie
 
-new-requires : tie.Need-new-requires
-new-requires c κs = search needs
-
-ownerless-requires : tie.Need-ownerless-requires
-ownerless-requires c κs = search needs
+none-requires : tie.Need-none-requires
+none-requires c κs = search needs
 
 returns : tie.Need-returns
-returns c = rw (c .ownerless .ensures, c .before .new .ensures, c .before .before .if1 .taken)
+returns c = rw (c .none .ensures, c .before .if1 .taken)
 
 element-copy-out-result : tie.Need-element-copy-out-result
 element-copy-out-result c = search needs
@@ -28,5 +25,4 @@ returns-2 c =
     getD-within (q .slots) 0 _ noTransmission (omega arith) ∙ sym (getD-take (q .count) (q .slots) 0 noTransmission (omega arith))
 
 pub head-spec : {M : Type 1} → statement M
-head-spec =
-    tie.close (tie.spec new-requires ownerless-requires returns element-copy-out-result returns-2)
+head-spec = tie.close (tie.spec none-requires returns element-copy-out-result returns-2)
