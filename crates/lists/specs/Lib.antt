@@ -4,3 +4,4 @@ pub mod Elements
 pub mod Places
 pub mod Vector
 pub mod Blocks
+pub mod Order

@@ -1,0 +1,61 @@
+-- The thirteen calls with all their arguments, and what each may answer (document 01, "Built", and "Numbers given back").
+-- Assumes nothing.
+use Prim.Native.Nat.{ℕ}
+use mathlib.Core.Bool.{Bool, cond}
+use mathlib.Core.List.{List}
+use lib.Dec.{eqb}
+use Rattle.message.specs.declared.Message.{Message}
+use Rattle.entry.specs.declared.Counts.{Counts}
+use Rattle.entry.specs.declared.Entry.{Entry}
+use Rattle.handle.specs.declared.Row.{Row}
+use Rattle.rules.specs.State.{State}
+use Rattle.settings.specs.declared.Settings.{Settings}
+
+-- what a transmit is asked for: length, bytes, reply, timeout and flags
+pub record Request : Type 0 where
+  pub length : ℕ
+  pub bytes : List ℕ
+  pub reply : ℕ
+  pub timeout : ℕ
+  pub flags : ℕ
+
+pub data Call : Type 0 where
+  callOpen : Bool → Call
+  callClose : ℕ → Call
+  callMode : ℕ → ℕ → Call
+  callTransmit : ℕ → Request → Call
+  callReceive : ℕ → Call
+  callBusStart : Call
+  callBusResult : ℕ → Counts → Call
+  callMessage : ℕ → List ℕ → Call
+  callTime : ℕ → Call
+  callConfigure : Settings → Call
+  callUnconfigure : Call
+  callListing : List Row → Call
+  callLookup : ℕ → Call
+
+-- refused: an errno. done: nothing more. opened: the handle. accepted: sequence number and tx_status. received: the entry. started: what goes out. listed: the lent rows afterwards. address: the noted address
+pub data Answer : Type 0 where
+  refused : ℕ → Answer
+  done : Answer
+  opened : ℕ → Answer
+  accepted : ℕ → ℕ → Answer
+  received : Entry → Answer
+  started : Message → Answer
+  listed : List Row → Answer
+  address : ℕ → Answer
+
+pub record Outcome : Type 0 where
+  pub answer : Answer
+  pub state : State
+
+abbrev pub finish : Answer → State → Outcome
+finish a s = record { answer = a; state = s }
+
+-- "A refusal returns its number and no other content; nothing changes". The number 0 stands for no refusal
+unfoldable pub unless : ℕ → State → Outcome → Outcome
+unless errno s o = cond (eqb errno 0) o (finish (refused errno) s)
+
+-- one check of several, in their order: its number if the test holds, else what the later ones say
+abbrev pub check : Bool → ℕ → ℕ → ℕ
+check test errno later = cond test errno later

@@ -1,0 +1,74 @@
+-- A message from the wire, in six steps (document 01, "A message from the wire").
+-- Assumes nothing.
+use Prim.Native.Nat.{ℕ}
+use mathlib.Core.Bool.{Bool, cond, _&&_, _||_, not}
+use mathlib.Core.List.{List}
+use lib.Dec.{eqb, leb}
+use Rattle.constants.specs.Kernel.{EINVAL, CEC-MODE-FOLLOWER, CEC-MODE-MONITOR-ALL, CEC-MSG-FEATURE-ABORT, CEC-OP-ABORT-UNRECOGNIZED-OP}
+use Rattle.message.specs.Message.{message, initiator, destination, opcode}
+use Rattle.message.specs.declared.Message.{Message}
+use Rattle.entry.specs.Entry.{reply, featureAbortReply, messageCopy}
+use Rattle.entry.specs.declared.Entry.{Entry}
+use Rattle.rules.specs.Call.{Outcome, finish, unless, check, Answer}
+use Rattle.rules.specs.Core.{sends, isDirected, isRegistered, isAnswered, answers, isNoted, notes, featureAbort}
+use Rattle.rules.specs.Deliver.{deliver, copies}
+use Rattle.rules.specs.Handles.{inRole, someone, followerPart, isFollower, isMonitor, isExclusiveFollower, isConfigured, isHere}
+use Rattle.rules.specs.State.{State, withWaits}
+use Rattle.waits.specs.Waits.{Taken, matchTaken}
+
+-- "Length not 1 to 16: EINVAL."
+abbrev pub incomingRefusal : ℕ → ℕ
+incomingRefusal length = check (not (leb 1 length && leb length 16)) EINVAL 0
+
+-- 1. "0xF0 gets all, 0xE0 those to 15 or an own address"
+abbrev pub monitors : State → Message → ℕ → Bool
+monitors s m mode = isMonitor mode && (eqb (followerPart mode) CEC-MODE-MONITOR-ALL || isHere s (destination (m .bytes)))
+
+-- 2. "Unconfigured, or a poll, or addressed elsewhere: stop."
+abbrev pub stops : State → Message → Bool
+stops s m = not (isConfigured s) || eqb (m .length) 1 || not (isHere s (destination (m .bytes)))
+
+-- 3. "its handle gets the message under that number, rx_status 0x01, or 0x05 for Feature Abort"
+abbrev pub replyEntry : ℕ → Message → Entry
+replyEntry number m = cond (eqb (opcode (m .bytes)) CEC-MSG-FEATURE-ABORT) (featureAbortReply number m) (reply number m)
+
+-- "the oldest matching wait ends"
+abbrev pub replied : State → Taken → Message → State
+replied s t m = cond (t .found) (deliver (withWaits s (t .rest)) (t .wait .owner) (replyEntry (t .wait .number) m)) s
+
+-- 5. "If no reply, or the flag was set: a copy .. Messages the core answered are not copied."
+abbrev pub isCopied : State → Taken → Message → Bool
+isCopied s t m = not (isAnswered s m) && (not (t .found) || t .wait .«to_followers»)
+
+-- "to the exclusive follower, or with none to every 0x10 handle, ascending"
+abbrev pub follows : State → ℕ → Bool
+follows s mode = cond (someone isExclusiveFollower s) (isExclusiveFollower mode) (eqb (followerPart mode) CEC-MODE-FOLLOWER)
+
+abbrev pub followed : State → Taken → Message → State
+followed s t m = cond (isCopied s t m) (copies (inRole (follows s)) (messageCopy m) s) s
+
+-- 6. "No reply, no follower, no core work, directed, initiator not 15, opcode not 0x00"
+abbrev pub isUnhandled : State → Taken → Message → Bool
+isUnhandled s t m =
+    not (t .found)
+    && not (someone isFollower s)
+    && not (isAnswered s m || isNoted m)
+    && isDirected m
+    && isRegistered m
+    && not (eqb (opcode (m .bytes)) CEC-MSG-FEATURE-ABORT)
+
+-- "Feature Abort (00, opcode, reason 0) to the initiator", from the address asked
+abbrev pub refusedMessage : State → Taken → Message → State
+refusedMessage s t m = cond (isUnhandled s t m) (sends s (featureAbort (destination (m .bytes)) (initiator (m .bytes)) (opcode (m .bytes)) CEC-OP-ABORT-UNRECOGNIZED-OP)) s
+
+-- steps 3 to 6, with the wait that the message ends; 4. "Core work (below), reply or not."
+abbrev pub handled : State → Taken → Message → State
+handled s t m = refusedMessage (followed (answers (notes (replied s t m) m) m) t m) t m
+
+unfoldable pub heard : State → Message → State
+heard s m =
+    let copied = copies (inRole (monitors s m)) (messageCopy m) s in
+    cond (stops s m) copied (handled copied (matchTaken m (s .waits)) m)
+
+unfoldable pub doMessage : State → ℕ → List ℕ → Outcome
+doMessage s length bytes = unless (incomingRefusal length) s (finish Answer.done (heard s (message length bytes)))

@@ -1,0 +1,33 @@
+-- What is pending, the room that it owes, and the numbers that are live (document 01, "The adapter's parts").
+-- Assumes nothing.
+use Prim.Native.Nat.{ℕ, _+_}
+use mathlib.Core.Bool.{Bool, _||_}
+use mathlib.Core.List.{List, _++_}
+use lib.ListN.{length}
+use Rattle.lists.specs.Sums.{sum, count, any}
+use Rattle.inbox.specs.Inboxes.{inboxOf}
+use Rattle.rules.specs.State.{State}
+use Rattle.transmission.specs.Transmission.{roomFor, replyFor, numbered}
+use Rattle.transmission.specs.declared.Transmission.{Transmission}
+use Rattle.wait.specs.Wait.{ownedBy}
+use Rattle.wait.specs.Wait
+
+-- the transmissions on the wire and queued, in the order in which they go out
+abbrev pub pending : State → List Transmission
+pending s = s .wire ++ s .queue
+
+-- document 01's owed room: "A handle owes room for 1 entry for each of its transmits queued or on the wire, 1 more if that transmit wants a reply, and 1 for each wait."
+unfoldable pub owedRoom : State → ℕ → ℕ
+owedRoom s h = sum (roomFor h) (pending s) + count (ownedBy h) (s .waits)
+
+-- "the handle's transmits and waits" that "want one"
+unfoldable pub wantedReplies : State → ℕ → ℕ
+wantedReplies s h = sum (replyFor h) (pending s) + count (ownedBy h) (s .waits)
+
+-- "entries plus owed room"
+abbrev pub roomTaken : State → ℕ → ℕ
+roomTaken s h = length (inboxOf (s .inboxes) h) + owedRoom s h
+
+-- "every number still queued, on the wire or waiting"
+unfoldable pub isLive : State → ℕ → Bool
+isLive s n = any (numbered n) (pending s) || any (Wait.numbered n) (s .waits)
