@@ -5,3 +5,4 @@ pub mod Places
 pub mod Vector
 pub mod Blocks
 pub mod Order
+pub mod Pigeonhole

@@ -3,23 +3,23 @@ use mathlib.Core.Bool.{true}
 use mathlib.Core.Path.{_≡_, refl}
 use Rattle.message.specs.Message.{message}
 use Rattle.message.specs.Reply.{isReply}
-use Rattle.waits.specs.Waits.{matchTaken}
-use Rattle.rules.specs.State.{fresh}
-use Rattle.rules.specs.Owed.{owedRoom, wantedReplies, isLive}
-use Rattle.rules.specs.Deliver.{copyTo, copies}
-use Rattle.rules.specs.Call.{unless}
-use Rattle.rules.specs.Open.{doOpen}
-use Rattle.rules.specs.Mode.{doMode}
-use Rattle.rules.specs.Number.{nextNumber}
-use Rattle.rules.specs.Transmit.{doTransmit}
-use Rattle.rules.specs.Receive.{doReceive}
-use Rattle.rules.specs.BusStart.{doBusStart}
 use Rattle.rules.specs.BusResult.{doBusResult, isFinal, keptCounts}
+use Rattle.rules.specs.BusStart.{doBusStart}
+use Rattle.rules.specs.Call.{unless, check}
 use Rattle.rules.specs.Configure.{doConfigure}
 use Rattle.rules.specs.Core.{sends, answers, notes}
+use Rattle.rules.specs.Deliver.{copyTo, copies}
 use Rattle.rules.specs.Incoming.{doMessage, heard}
 use Rattle.rules.specs.KnownAnswers.{knownAnswers, allGiven}
+use Rattle.rules.specs.Mode.{doMode}
+use Rattle.rules.specs.Number.{nextNumber}
+use Rattle.rules.specs.Open.{doOpen}
+use Rattle.rules.specs.Owed.{owedRoom, wantedReplies, isLive}
+use Rattle.rules.specs.Receive.{doReceive}
+use Rattle.rules.specs.State.{fresh}
+use Rattle.rules.specs.Transmit.{doTransmit}
+use Rattle.waits.specs.Waits.{matchTaken}
 
 pub known-answers : allGiven knownAnswers ≡ true
-unfolding message isReply matchTaken fresh owedRoom wantedReplies isLive copyTo copies unless doOpen doMode nextNumber doTransmit doReceive doBusStart doBusResult isFinal keptCounts doConfigure sends answers notes doMessage heard
+unfolding message isReply matchTaken fresh owedRoom wantedReplies isLive copyTo copies unless check doOpen doMode nextNumber doTransmit doReceive doBusStart doBusResult isFinal keptCounts doConfigure sends answers notes doMessage heard
 known-answers = refl

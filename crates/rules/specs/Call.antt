@@ -57,5 +57,5 @@ unfoldable pub unless : ℕ → State → Outcome → Outcome
 unless errno s o = cond (eqb errno 0) o (finish (refused errno) s)
 
 -- one check of several, in their order: its number if the test holds, else what the later ones say
-abbrev pub check : Bool → ℕ → ℕ → ℕ
+unfoldable pub check : Bool → ℕ → ℕ → ℕ
 check test errno later = cond test errno later

@@ -7,9 +7,8 @@ use lib.Dec.{eqb}
 use lib.ListN.{replicate, length}
 use Rattle.constants.specs.Kernel.{EPERM, EAGAIN, EINVAL}
 use Rattle.entry.specs.Entry.{noCounts}
-use Rattle.settings.specs.declared.Settings.{Settings}
-use Rattle.rules.specs.State.{State, Capabilities, fresh, withLast}
 use Rattle.rules.specs.Call.{Call, Request, Answer, refused, done, opened, accepted, received, started, listed, address, callOpen, callMode, callTransmit, callReceive, callBusStart, callBusResult, callMessage, callConfigure}
+use Rattle.rules.specs.State.{State, fresh, withLast}
 use Rattle.rules.specs.Step.{step}
 
 -- what an answer shows as numbers: the errno, or 0 and its values

@@ -1,0 +1,43 @@
+-- Checks in their order: what follows where they are passed, and where they are not.
+-- Assumes nothing.
+use Prim.Native.Nat.{ℕ}
+use mathlib.Core.Bool.{Bool, true, false}
+use mathlib.Core.Logic.{_≢_}
+use mathlib.Core.Path.{_≡_, refl}
+use lib.Dec.{eqb}
+use borrow.Author.Tests.{eq-eqb, ne-eqb, eqb-true}
+use Rattle.lists.specs.Tests.{split}
+use Rattle.rules.specs.Call.{Answer, Outcome, finish, unless, check, refused}
+use Rattle.rules.specs.State.{State}
+
+-- a check that is passed was false, and the later ones are passed
+pub passed : (b : Bool) (e later : ℕ) → e ≢ 0 → check b e later ≡ 0 → (b ≡ false) × (later ≡ 0)
+unfolding check
+passed true e later n q = absurd (n q)
+passed false e later n q = (refl, q)
+
+-- no refusal: the call is done
+pub unless-done : (s : State) (o : Outcome) (n : ℕ) → n ≡ 0 → unless n s o ≡ o
+unfolding unless
+unless-done s o n e = rw (eq-eqb n 0 e)
+
+-- a refusal: its number, and the state as it was
+pub unless-refused : (s : State) (o : Outcome) (n : ℕ) → n ≢ 0 → unless n s o ≡ finish (refused n) s
+unfolding unless
+unless-refused s o n e = rw (ne-eqb n 0 e)
+
+-- an answer that is no refusal was given by a call that is done, and that was not refused
+pub unless-answer : (s : State) (o : Outcome) (n : ℕ) (a : Answer) → ((e : ℕ) → refused e ≡ a → ⊥) → unless n s o .answer ≡ a → (n ≡ 0) × (unless n s o ≡ o) × (o .answer ≡ a)
+unfolding unless
+unless-answer s o n a d q =
+    split (eqb n 0)
+    (λ e. (eqb-true n 0 e, rw e, rw e at q))
+    (λ e. absurd (d n (rw e at q)))
+
+-- a refusal leaves the state, if what is done otherwise is no refusal
+pub unless-same : (s : State) (o : Outcome) (n e : ℕ) → ((k : ℕ) → o .answer ≡ refused k → ⊥) → unless n s o .answer ≡ refused e → unless n s o .state ≡ s
+unfolding unless
+unless-same s o n e d q =
+    split (eqb n 0)
+    (λ f. absurd (d e (rw f at q)))
+    (λ f. rw f)

@@ -1,0 +1,47 @@
+-- What each kind of entry shows as number and statuses.
+-- Assumes nothing.
+use Prim.Native.Nat.{ℕ}
+use mathlib.Core.Bool.{cond}
+use mathlib.Core.Path.{_≡_, refl}
+use lib.Dec.{eqb}
+use Rattle.constants.specs.Kernel.{CEC-MSG-FEATURE-ABORT}
+use Rattle.lists.specs.Tests.{split}
+use Rattle.message.specs.Message.{opcode}
+use Rattle.message.specs.declared.Message.{Message}
+use Rattle.entry.specs.Entry.{result, resultCopy, reply, featureAbortReply, timedOut, aborted, messageCopy}
+use Rattle.entry.specs.declared.Counts.{Counts}
+use Rattle.entry.specs.declared.Entry.{Entry}
+use Rattle.rules.specs.Incoming.{replyEntry}
+
+pub record Shows (number tx rx : ℕ) (e : Entry) : Type 0 where
+  pub sequence : e .sequence ≡ number
+  pub transmitted : e .«tx_status» ≡ tx
+  pub received : e .«rx_status» ≡ rx
+
+pub result-shows : (n status : ℕ) (c : Counts) (m : Message) → Shows n status 0 (result n status c m)
+result-shows n status c m = record { sequence = refl; transmitted = refl; received = refl }
+
+pub resultCopy-shows : (status : ℕ) (c : Counts) (m : Message) → Shows 0 status 0 (resultCopy status c m)
+resultCopy-shows status c m = record { sequence = refl; transmitted = refl; received = refl }
+
+pub reply-shows : (n : ℕ) (m : Message) → Shows n 0 0x01 (reply n m)
+reply-shows n m = record { sequence = refl; transmitted = refl; received = refl }
+
+pub featureAbortReply-shows : (n : ℕ) (m : Message) → Shows n 0 0x05 (featureAbortReply n m)
+featureAbortReply-shows n m = record { sequence = refl; transmitted = refl; received = refl }
+
+pub timedOut-shows : (n : ℕ) (m : Message) → Shows n 0 0x02 (timedOut n m)
+timedOut-shows n m = record { sequence = refl; transmitted = refl; received = refl }
+
+pub aborted-shows : (n : ℕ) (m : Message) → Shows n 0 0x08 (aborted n m)
+aborted-shows n m = record { sequence = refl; transmitted = refl; received = refl }
+
+pub messageCopy-shows : (m : Message) → Shows 0 0 0x01 (messageCopy m)
+messageCopy-shows m = record { sequence = refl; transmitted = refl; received = refl }
+
+-- the entry of a reply, Feature Abort or not
+pub replyEntry-shows : (n : ℕ) (m : Message) → Shows n 0 (cond (eqb (opcode (m .bytes)) CEC-MSG-FEATURE-ABORT) 0x05 0x01) (replyEntry n m)
+replyEntry-shows n m =
+    split (eqb (opcode (m .bytes)) CEC-MSG-FEATURE-ABORT)
+    (λ e. rw e (featureAbortReply-shows n m))
+    (λ e. rw e (reply-shows n m))

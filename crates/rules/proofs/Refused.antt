@@ -1,0 +1,43 @@
+-- A refused call leaves the state as it was, for every call and every refusal (document 01, "Numbers given back").
+-- Assumes nothing.
+use Prim.Native.Nat.{ℕ}
+use mathlib.Core.Path.{_≡_}
+use native.Mathlib.Omega.{arith}
+use Rattle.lists.specs.Tests.{split}
+use Rattle.rules.specs.BusResult.{doBusResult}
+use Rattle.rules.specs.BusStart.{doBusStart}
+use Rattle.rules.specs.Call.{Call, refused, callOpen, callClose, callMode, callTransmit, callReceive, callBusStart, callBusResult, callMessage, callTime, callConfigure, callUnconfigure, callListing, callLookup}
+use Rattle.rules.specs.Close.{doClose}
+use Rattle.rules.specs.Configure.{doConfigure}
+use Rattle.rules.specs.Incoming.{doMessage}
+use Rattle.rules.specs.Listing.{doListing}
+use Rattle.rules.specs.Lookup.{doLookup}
+use Rattle.rules.specs.Mode.{doMode}
+use Rattle.rules.specs.Open.{doOpen}
+use Rattle.rules.specs.Receive.{doReceive}
+use Rattle.rules.specs.State.{State}
+use Rattle.rules.specs.Step.{step}
+use Rattle.rules.specs.Time.{doTime}
+use Rattle.rules.specs.Transmit.{doTransmit, isSelfPoll}
+use Rattle.rules.specs.Unconfigure.{doUnconfigure}
+use Rattle.rules.proofs.Checks.{unless-same}
+
+-- two answers that differ in their kind
+pub differ : {P : Type 0} → _≡_ {A = ℕ} 0 1 → P
+differ z = absurd (omega arith)
+
+pub refused-same : (s : State) (c : Call) (e : ℕ) → step s c .answer ≡ refused e → step s c .state ≡ s
+unfolding doOpen doClose doMode doTransmit doReceive doBusStart doBusResult doMessage doTime doConfigure doUnconfigure doListing doLookup
+refused-same s (callOpen p) e q = unless-same s _ _ e (λ k r. differ cc) q
+refused-same s (callClose h) e q = unless-same s _ _ e (λ k r. differ cc) q
+refused-same s (callMode h m) e q = unless-same s _ _ e (λ k r. differ cc) q
+refused-same s (callTransmit h r) e q = unless-same s _ _ e (λ k. split (isSelfPoll s r) (λ f. rw f (λ z. differ cc)) (λ f. rw f (λ z. differ cc))) q
+refused-same s (callReceive h) e q = unless-same s _ _ e (λ k r. differ cc) q
+refused-same s callBusStart e q = unless-same s _ _ e (λ k r. differ cc) q
+refused-same s (callBusResult status counts) e q = unless-same s _ _ e (λ k r. differ cc) q
+refused-same s (callMessage n bytes) e q = unless-same s _ _ e (λ k r. differ cc) q
+refused-same s (callTime ms) e q = differ cc
+refused-same s (callConfigure x) e q = unless-same s _ _ e (λ k r. differ cc) q
+refused-same s callUnconfigure e q = differ cc
+refused-same s (callListing rows) e q = unless-same s _ _ e (λ k r. differ cc) q
+refused-same s (callLookup a) e q = unless-same s _ _ e (λ k r. differ cc) q
