@@ -1,0 +1,102 @@
+-- Histories that no adapter may have, each with one thing wrong: the claim is false of each.
+-- Assumes nothing.
+use Prim.Native.Nat.{ℕ}
+use mathlib.Core.Bool.{true, false}
+use mathlib.Core.List.{List, [], _∷_}
+use mathlib.Core.Path.{_≡_, refl, ap}
+use native.Mathlib.Omega.{arith}
+use lib.ListN.{length, replicate}
+use Rattle.entry.specs.Entry.{noCounts, result, reply, messageCopy}
+use Rattle.entry.specs.declared.Entry.{Entry}
+use Rattle.message.specs.Message.{message}
+use Rattle.message.specs.declared.Message.{Message}
+use Rattle.rules.specs.State.{State, closedHandle, noSettings, noneNoted}
+use Rattle.rules.specs.Open.{openedHandle}
+use Rattle.rules.specs.Call.{Call, Answer, done, opened, accepted, callOpen, callClose, callTransmit, callBusResult, callMessage, callTime}
+use Rattle.rules.specs.Step.{Step}
+use Rattle.guarantee.specs.Claim.{Kept}
+use Rattle.guarantee.proofs.Histories.{asks}
+
+-- a message, whatever it says
+abbrev m : Message
+m = message 2 (replicate 16 0)
+
+-- handles 0 and 1 open, with these inboxes
+abbrev state : List Entry → List Entry → State
+state zero one = record
+    { capabilities = record { transmit = true; monitorAll = true }
+    ; handles = openedHandle true ∷ openedHandle true ∷ replicate 6 closedHandle
+    ; inboxes = zero ∷ one ∷ replicate 6 []
+    ; queue = []
+    ; wire = []
+    ; waits = []
+    ; last = 1
+    ; settings = noSettings
+    ; noted = noneNoted
+    }
+
+abbrev call : Call → Answer → State → State → Step
+call c a before after = record { before = before; call = c; answer = a; after = after }
+
+-- handle 0 asks for a reply under number 1
+abbrev asked : Step
+asked = call (callTransmit 0 asks) (accepted 1 0) (state [] []) (state [] [])
+
+abbrev ok : Entry
+ok = result 1 0x01 noCounts m
+
+abbrev answer : Entry
+answer = reply 1 m
+
+-- a result, delivered
+abbrev sent : List Entry → List Entry → Step
+sent zero one = call (callBusResult 0x01 noCounts) done (state [] []) (state zero one)
+
+-- the result goes to handle 1
+pub wrong-handle : Kept (asked ∷ sent [] (ok ∷ []) ∷ []) → ⊥
+wrong-handle k = let z = k .transmits [] asked (sent [] (ok ∷ []) ∷ []) refl 0 asks 1 refl refl .ownHandle 1 (omega arith) .0 in omega arith
+
+-- two results
+pub two-results : Kept (asked ∷ sent (ok ∷ ok ∷ []) [] ∷ []) → ⊥
+two-results k = let z = k .transmits [] asked (sent (ok ∷ ok ∷ []) [] ∷ []) refl 0 asks 1 refl refl .oneResultAtMost in omega arith
+
+-- a reply after a close
+abbrev shut : Step
+shut = call (callClose 0) done (state [] []) (state [] [])
+
+abbrev late : Step
+late = call (callMessage 3 (replicate 16 0)) done (state [] []) (state (answer ∷ []) [])
+
+pub after-close : Kept (asked ∷ shut ∷ late ∷ []) → ⊥
+after-close k = let z = k .transmits [] asked (shut ∷ late ∷ []) refl 0 asks 1 refl refl .neverAfterClose [] shut (late ∷ []) refl refl .1 in omega arith
+
+-- a reply with no result before it
+pub no-result : Kept (asked ∷ late ∷ []) → ⊥
+no-result k = let z = k .transmits [] asked (late ∷ []) refl 0 asks 1 refl refl .replyAfterResult [] late [] refl (omega arith) .1 in omega arith
+
+-- an entry pushed out of its inbox
+abbrev start : Step
+start = call (callOpen true) (opened 0) (state [] []) (state [] [])
+
+abbrev copied : Step
+copied = call (callMessage 2 (replicate 16 0)) done (state [] []) (state (messageCopy m ∷ []) [])
+
+abbrev emptied : Step
+emptied = call (callMessage 2 (replicate 16 0)) done (state (messageCopy m ∷ []) []) (state [] [])
+
+pub pushed-out : Kept (start ∷ copied ∷ emptied ∷ []) → ⊥
+pushed-out k = let z = ap length (k .inboxes (start ∷ copied ∷ []) emptied refl 0 refl) in omega arith
+
+-- a timeout that never comes
+abbrev waited : Step
+waited = call (callTime 1000) done (state (ok ∷ []) []) (state (ok ∷ []) [])
+
+pub never-ends : Kept (asked ∷ sent (ok ∷ []) [] ∷ waited ∷ []) → ⊥
+never-ends k = let z = k .transmits [] asked (sent (ok ∷ []) [] ∷ waited ∷ []) refl 0 asks 1 refl refl .oneReply [] (sent (ok ∷ []) []) (waited ∷ []) refl refl (omega arith) refl refl (omega arith) in omega arith
+
+-- nineteen bus results, and none of them is its
+abbrev other : Step
+other = call (callBusResult 0x01 noCounts) done (state [] []) (state [] [])
+
+pub forgotten : Kept (asked ∷ replicate 19 other) → ⊥
+forgotten k = let z = k .transmits [] asked (replicate 19 other) refl 0 asks 1 refl refl .oneResult refl (omega arith) in omega arith

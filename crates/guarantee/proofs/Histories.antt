@@ -1,0 +1,82 @@
+-- Histories of the rules, on which the parts of the claim compute as they should.
+-- Assumes nothing.
+use Prim.Native.Nat.{ℕ}
+use mathlib.Core.Bool.{true, false}
+use mathlib.Core.List.{List, [], _∷_, _++_}
+use mathlib.Core.Path.{_≡_, refl}
+use lib.ListN.{drop, replicate, length}
+use Rattle.entry.specs.Entry.{noCounts}
+use Rattle.message.specs.Message.{message}
+use Rattle.message.specs.Reply.{isReply}
+use Rattle.waits.specs.Waits.{matchTaken}
+use Rattle.rules.specs.State.{fresh}
+use Rattle.rules.specs.Owed.{owedRoom, wantedReplies, isLive}
+use Rattle.rules.specs.Deliver.{copyTo, copies}
+use Rattle.rules.specs.Call.{Call, Request, unless, check, callOpen, callClose, callTransmit, callReceive, callBusStart, callBusResult, callMessage, callTime, callConfigure, callUnconfigure}
+use Rattle.rules.specs.Open.{doOpen}
+use Rattle.rules.specs.Close.{doClose}
+use Rattle.rules.specs.Number.{nextNumber}
+use Rattle.rules.specs.Transmit.{doTransmit}
+use Rattle.rules.specs.Receive.{doReceive}
+use Rattle.rules.specs.BusStart.{doBusStart}
+use Rattle.rules.specs.BusResult.{doBusResult, isFinal, keptCounts}
+use Rattle.rules.specs.Time.{doTime}
+use Rattle.rules.specs.Configure.{doConfigure}
+use Rattle.rules.specs.Unconfigure.{doUnconfigure}
+use Rattle.rules.specs.Core.{sends, answers, notes}
+use Rattle.rules.specs.Incoming.{doMessage, heard}
+use Rattle.rules.specs.Step.{Step, run}
+use Rattle.guarantee.specs.Seen.{came, gave, results, okResults, replies, busResults, closings, elapsed, own, sinceOpen, all}
+
+-- a power status asked for
+abbrev pub asks : Request
+asks = record { length = 2; bytes = 0x40 ∷ 0x8F ∷ replicate 14 0; reply = 0x90; timeout = 0; flags = 0 }
+
+abbrev status : Call
+status = callMessage 3 (0x04 ∷ 0x90 ∷ replicate 14 0)
+
+-- handles 0 and 1 ask, under the numbers 1 and 2; then some more calls
+abbrev history : List Call → List Step
+history more =
+    run (fresh (record { transmit = true; monitorAll = true }))
+    (callOpen true
+    ∷ callOpen true
+    ∷ callConfigure (record { «physical_address» = 0x1000; mask = 0x0010; version = 5; «device_type» = 4; «vendor_id» = 0; «name_length» = 1; name = 0x42 ∷ replicate 13 0 })
+    ∷ callTransmit 0 asks
+    ∷ callTransmit 1 asks
+    ∷ more)
+
+-- of number n: results, those with the OK bit and replies; of the whole: accepted bus results, closes of handle 0, milliseconds
+abbrev seen : ℕ → List Step → List ℕ
+seen n later = results n (own n later) ∷ okResults n (own n later) ∷ replies n (own n later) ∷ busResults later ∷ closings 0 later ∷ elapsed later ∷ []
+
+-- what came to handle h since its open, what its receives gave, and what is left
+abbrev entries : ℕ → List Step → List ℕ
+entries h xs = length (all (came h) (sinceOpen h xs)) ∷ length (all (gave h) (sinceOpen h xs)) ∷ []
+
+abbrev sending : List Call
+sending = callBusStart ∷ callBusResult 0x01 noCounts ∷ callBusStart ∷ callBusResult 0x01 noCounts ∷ []
+
+-- both are answered: each has its result and its reply
+abbrev answered : List Step
+answered = history (sending ++ (status ∷ status ∷ callReceive 0 ∷ []))
+
+both-answered : (seen 1 (drop 4 answered) ≡ 1 ∷ 1 ∷ 1 ∷ 2 ∷ 0 ∷ 0 ∷ []) × (seen 2 (drop 5 answered) ≡ 1 ∷ 1 ∷ 1 ∷ 2 ∷ 0 ∷ 0 ∷ []) × (entries 0 answered ≡ 2 ∷ 1 ∷ []) × (entries 1 answered ≡ 2 ∷ 0 ∷ [])
+unfolding message isReply matchTaken fresh owedRoom wantedReplies isLive copyTo copies unless check doOpen doClose nextNumber doTransmit doReceive doBusStart doBusResult isFinal keptCounts doTime doConfigure doUnconfigure sends answers notes doMessage heard
+both-answered = (refl, refl, refl, refl)
+
+-- handle 0 is closed before the replies; time passes: handle 1 has its timeout, number 1 nothing more
+abbrev closed : List Step
+closed = history (sending ++ (callClose 0 ∷ callTime 400 ∷ callTime 600 ∷ status ∷ []))
+
+one-closed : (seen 1 (drop 4 closed) ≡ 1 ∷ 1 ∷ 0 ∷ 2 ∷ 1 ∷ 1000 ∷ []) × (seen 2 (drop 5 closed) ≡ 1 ∷ 1 ∷ 1 ∷ 2 ∷ 1 ∷ 1000 ∷ [])
+unfolding message isReply matchTaken fresh owedRoom wantedReplies isLive copyTo copies unless check doOpen doClose nextNumber doTransmit doReceive doBusStart doBusResult isFinal keptCounts doTime doConfigure doUnconfigure sends answers notes doMessage heard
+one-closed = (refl, refl)
+
+-- an unconfigure ends the one on the wire and the one that waits
+abbrev ended : List Step
+ended = history (callBusStart ∷ callBusResult 0x01 noCounts ∷ callBusStart ∷ callUnconfigure ∷ [])
+
+all-ended : (seen 1 (drop 4 ended) ≡ 1 ∷ 1 ∷ 1 ∷ 1 ∷ 0 ∷ 0 ∷ []) × (seen 2 (drop 5 ended) ≡ 1 ∷ 0 ∷ 0 ∷ 1 ∷ 0 ∷ 0 ∷ [])
+unfolding message isReply matchTaken fresh owedRoom wantedReplies isLive copyTo copies unless check doOpen doClose nextNumber doTransmit doReceive doBusStart doBusResult isFinal keptCounts doTime doConfigure doUnconfigure sends answers notes doMessage heard
+all-ended = (refl, refl)

@@ -1,0 +1,197 @@
+-- What can be seen of a history of calls: read off the calls, their answers and the two states of each, and not off anything that the rules write down about themselves.
+-- Assumes nothing.
+use Prim.Native.Nat.{ℕ, _+_, _-_}
+use mathlib.Core.Bool.{Bool, true, false, cond, _&&_, _||_, not}
+use mathlib.Core.List.{List, [], _∷_, _++_}
+use lib.Dec.{eqb}
+use lib.ListN.{length, drop}
+use Rattle.constants.specs.Kernel.{CEC-TX-STATUS-OK}
+use Rattle.lists.specs.Sums.{sum, count, any}
+use Rattle.lists.specs.Tests.{bit}
+use Rattle.entry.specs.declared.Entry.{Entry}
+use Rattle.inbox.specs.Inboxes.{inboxOf}
+use Rattle.rules.specs.Call.{Call, Answer, refused, done, opened, accepted, received, started, listed, address, callOpen, callClose, callMode, callTransmit, callReceive, callBusStart, callBusResult, callMessage, callTime, callConfigure, callUnconfigure, callListing, callLookup}
+use Rattle.rules.specs.Deliver.{handleNumbers}
+use Rattle.rules.specs.Handles.{hasBit}
+use Rattle.rules.specs.Step.{Step}
+
+-- ---- of a call: whether it is a receive or a close of handle h, a bus result, and its milliseconds
+abbrev pub isReceive : ℕ → Call → Bool
+isReceive h (callOpen p) = false
+isReceive h (callClose g) = false
+isReceive h (callMode g m) = false
+isReceive h (callTransmit g r) = false
+isReceive h (callReceive g) = eqb g h
+isReceive h callBusStart = false
+isReceive h (callBusResult status counts) = false
+isReceive h (callMessage n bytes) = false
+isReceive h (callTime ms) = false
+isReceive h (callConfigure x) = false
+isReceive h callUnconfigure = false
+isReceive h (callListing rows) = false
+isReceive h (callLookup a) = false
+
+abbrev pub isClose : ℕ → Call → Bool
+isClose h (callOpen p) = false
+isClose h (callClose g) = eqb g h
+isClose h (callMode g m) = false
+isClose h (callTransmit g r) = false
+isClose h (callReceive g) = false
+isClose h callBusStart = false
+isClose h (callBusResult status counts) = false
+isClose h (callMessage n bytes) = false
+isClose h (callTime ms) = false
+isClose h (callConfigure x) = false
+isClose h callUnconfigure = false
+isClose h (callListing rows) = false
+isClose h (callLookup a) = false
+
+abbrev pub isBusResult : Call → Bool
+isBusResult (callOpen p) = false
+isBusResult (callClose g) = false
+isBusResult (callMode g m) = false
+isBusResult (callTransmit g r) = false
+isBusResult (callReceive g) = false
+isBusResult callBusStart = false
+isBusResult (callBusResult status counts) = true
+isBusResult (callMessage n bytes) = false
+isBusResult (callTime ms) = false
+isBusResult (callConfigure x) = false
+isBusResult callUnconfigure = false
+isBusResult (callListing rows) = false
+isBusResult (callLookup a) = false
+
+abbrev pub milliseconds : Call → ℕ
+milliseconds (callOpen p) = 0
+milliseconds (callClose g) = 0
+milliseconds (callMode g m) = 0
+milliseconds (callTransmit g r) = 0
+milliseconds (callReceive g) = 0
+milliseconds callBusStart = 0
+milliseconds (callBusResult status counts) = 0
+milliseconds (callMessage n bytes) = 0
+milliseconds (callTime ms) = ms
+milliseconds (callConfigure x) = 0
+milliseconds callUnconfigure = 0
+milliseconds (callListing rows) = 0
+milliseconds (callLookup a) = 0
+
+-- ---- of a call with its answer; a call is accepted if it succeeds
+-- a close of handle h that succeeded, and an accepted bus result
+abbrev pub doneBy : Bool → Answer → Bool
+doneBy b (refused e) = false
+doneBy b done = b
+doneBy b (opened h) = false
+doneBy b (accepted n status) = false
+doneBy b (received e) = false
+doneBy b (started m) = false
+doneBy b (listed rows) = false
+doneBy b (address a) = false
+
+abbrev pub closes : ℕ → Step → Bool
+closes h x = doneBy (isClose h (x .call)) (x .answer)
+
+abbrev pub endsTransmit : Step → Bool
+endsTransmit x = doneBy (isBusResult (x .call)) (x .answer)
+
+-- an open that gave handle h
+abbrev pub opensTo : ℕ → Answer → Bool
+opensTo h (refused e) = false
+opensTo h done = false
+opensTo h (opened g) = eqb g h
+opensTo h (accepted n status) = false
+opensTo h (received e) = false
+opensTo h (started m) = false
+opensTo h (listed rows) = false
+opensTo h (address a) = false
+
+abbrev pub opens : ℕ → Step → Bool
+opens h x = opensTo h (x .answer)
+
+-- a transmit that was given number n, whether it was queued or answered at once
+abbrev pub givesTo : ℕ → Answer → Bool
+givesTo n (refused e) = false
+givesTo n done = false
+givesTo n (opened g) = false
+givesTo n (accepted m status) = eqb m n
+givesTo n (received e) = false
+givesTo n (started m) = false
+givesTo n (listed rows) = false
+givesTo n (address a) = false
+
+abbrev pub gives : ℕ → Step → Bool
+gives n x = givesTo n (x .answer)
+
+-- what a receive of handle h gave
+abbrev pub givenBy : Bool → Answer → List Entry
+givenBy b (refused e) = []
+givenBy b done = []
+givenBy b (opened h) = []
+givenBy b (accepted n status) = []
+givenBy b (received e) = cond b (e ∷ []) []
+givenBy b (started m) = []
+givenBy b (listed rows) = []
+givenBy b (address a) = []
+
+abbrev pub gave : ℕ → Step → List Entry
+gave h x = givenBy (isReceive h (x .call)) (x .answer)
+
+-- "An entry comes with the call by whose rule it goes into a handle's inbox": the inbox of h after the call, without what was there before and is there still. To a handle that the call opened or closed nothing comes
+abbrev pub came : ℕ → Step → List Entry
+came h x =
+    cond (opens h x || closes h x) []
+    (drop (length (inboxOf (x .before .inboxes) h) - length (gave h x)) (inboxOf (x .after .inboxes) h))
+
+-- ---- of an entry
+-- "Under a number other than 0 it belongs to the transmit last given that number .., as its transmit result if tx_status is not 0, as its reply entry if rx_status is not 0"
+abbrev pub isResult : ℕ → Entry → Bool
+isResult n e = eqb (e .sequence) n && not (eqb (e .«tx_status») 0)
+
+abbrev pub isReplyEntry : ℕ → Entry → Bool
+isReplyEntry n e = eqb (e .sequence) n && not (eqb (e .«rx_status») 0)
+
+-- "its result had the OK bit"
+abbrev pub isOkResult : ℕ → Entry → Bool
+isOkResult n e = isResult n e && hasBit CEC-TX-STATUS-OK (e .«tx_status»)
+
+-- ---- of a history: how many entries of a kind came to handle h, and to all handles
+abbrev pub cameTo : (Entry → Bool) → ℕ → List Step → ℕ
+cameTo p h xs = sum (λ x. count p (came h x)) xs
+
+abbrev pub cameToAny : (Entry → Bool) → List Step → ℕ
+cameToAny p xs = sum (λ h. cameTo p h xs) handleNumbers
+
+abbrev pub results : ℕ → List Step → ℕ
+results n xs = cameToAny (isResult n) xs
+
+abbrev pub okResults : ℕ → List Step → ℕ
+okResults n xs = cameToAny (isOkResult n) xs
+
+abbrev pub replies : ℕ → List Step → ℕ
+replies n xs = cameToAny (isReplyEntry n) xs
+
+-- accepted bus results; closes of handle h; milliseconds of the time calls
+abbrev pub busResults : List Step → ℕ
+busResults xs = count endsTransmit xs
+
+abbrev pub closings : ℕ → List Step → ℕ
+closings h xs = count (closes h) xs
+
+abbrev pub elapsed : List Step → ℕ
+elapsed xs = sum (λ x. milliseconds (x .call)) xs
+
+-- ---- parts of a history
+-- the calls whose entries under number n belong to the transmit that was given it: up to the next call that is given n, which comes after what it brings
+abbrev pub own : ℕ → List Step → List Step
+own n [] = []
+own n (x ∷ xs) = x ∷ cond (gives n x) [] (own n xs)
+
+-- the calls after the last open of handle h
+abbrev pub sinceOpen : ℕ → List Step → List Step
+sinceOpen h [] = []
+sinceOpen h (x ∷ xs) = cond (any (opens h) xs) (sinceOpen h xs) (cond (opens h x) xs (x ∷ xs))
+
+-- what each gives, one after the other
+abbrev pub all : (Step → List Entry) → List Step → List Entry
+all f [] = []
+all f (x ∷ xs) = f x ++ all f xs

@@ -1,0 +1,1 @@
+// Demand 3, the claim about any list of calls, in specs/. There is no code.
