@@ -1,20 +1,19 @@
 -- Histories that no adapter may have, each with one thing wrong: the claim is false of each.
 -- Assumes nothing.
-use Prim.Native.Nat.{ℕ}
-use mathlib.Core.Bool.{true, false}
+use mathlib.Core.Bool.{true}
 use mathlib.Core.List.{List, [], _∷_}
-use mathlib.Core.Path.{_≡_, refl, ap}
+use mathlib.Core.Path.{refl, ap}
 use native.Mathlib.Omega.{arith}
 use lib.ListN.{length, replicate}
-use Rattle.entry.specs.Entry.{noCounts, result, reply, messageCopy}
-use Rattle.entry.specs.declared.Entry.{Entry}
 use Rattle.message.specs.Message.{message}
 use Rattle.message.specs.declared.Message.{Message}
-use Rattle.rules.specs.State.{State, closedHandle, noSettings, noneNoted}
-use Rattle.rules.specs.Open.{openedHandle}
-use Rattle.rules.specs.Call.{Call, Answer, done, opened, accepted, callOpen, callClose, callTransmit, callBusResult, callMessage, callTime}
-use Rattle.rules.specs.Step.{Step}
+use Rattle.entry.specs.Entry.{noCounts, result, reply, messageCopy}
+use Rattle.entry.specs.declared.Entry.{Entry}
 use Rattle.guarantee.specs.Claim.{Kept}
+use Rattle.rules.specs.Call.{Call, Answer, done, opened, accepted, callOpen, callClose, callTransmit, callBusResult, callMessage, callTime}
+use Rattle.rules.specs.Open.{openedHandle}
+use Rattle.rules.specs.State.{State, closedHandle, noSettings, noneNoted}
+use Rattle.rules.specs.Step.{Step}
 use Rattle.guarantee.proofs.Histories.{asks}
 
 -- a message, whatever it says
@@ -23,17 +22,17 @@ m = message 2 (replicate 16 0)
 
 -- handles 0 and 1 open, with these inboxes
 abbrev state : List Entry → List Entry → State
-state zero one = record
-    { capabilities = record { transmit = true; monitorAll = true }
-    ; handles = openedHandle true ∷ openedHandle true ∷ replicate 6 closedHandle
-    ; inboxes = zero ∷ one ∷ replicate 6 []
-    ; queue = []
-    ; wire = []
-    ; waits = []
-    ; last = 1
-    ; settings = noSettings
-    ; noted = noneNoted
-    }
+state zero one = record {
+  capabilities = record { transmit = true; monitorAll = true };
+  handles = openedHandle true ∷ openedHandle true ∷ replicate 6 closedHandle;
+  inboxes = zero ∷ one ∷ replicate 6 [];
+  queue = [];
+  wire = [];
+  waits = [];
+  last = 1;
+  settings = noSettings;
+  noted = noneNoted;
+}
 
 abbrev call : Call → Answer → State → State → Step
 call c a before after = record { before = before; call = c; answer = a; after = after }

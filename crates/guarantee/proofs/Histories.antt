@@ -1,32 +1,32 @@
 -- Histories of the rules, on which the parts of the claim compute as they should.
 -- Assumes nothing.
 use Prim.Native.Nat.{ℕ}
-use mathlib.Core.Bool.{true, false}
+use mathlib.Core.Bool.{true}
 use mathlib.Core.List.{List, [], _∷_, _++_}
 use mathlib.Core.Path.{_≡_, refl}
 use lib.ListN.{drop, replicate, length}
-use Rattle.entry.specs.Entry.{noCounts}
 use Rattle.message.specs.Message.{message}
 use Rattle.message.specs.Reply.{isReply}
-use Rattle.waits.specs.Waits.{matchTaken}
-use Rattle.rules.specs.State.{fresh}
-use Rattle.rules.specs.Owed.{owedRoom, wantedReplies, isLive}
-use Rattle.rules.specs.Deliver.{copyTo, copies}
-use Rattle.rules.specs.Call.{Call, Request, unless, check, callOpen, callClose, callTransmit, callReceive, callBusStart, callBusResult, callMessage, callTime, callConfigure, callUnconfigure}
-use Rattle.rules.specs.Open.{doOpen}
-use Rattle.rules.specs.Close.{doClose}
-use Rattle.rules.specs.Number.{nextNumber}
-use Rattle.rules.specs.Transmit.{doTransmit}
-use Rattle.rules.specs.Receive.{doReceive}
-use Rattle.rules.specs.BusStart.{doBusStart}
-use Rattle.rules.specs.BusResult.{doBusResult, isFinal, keptCounts}
-use Rattle.rules.specs.Time.{doTime}
-use Rattle.rules.specs.Configure.{doConfigure}
-use Rattle.rules.specs.Unconfigure.{doUnconfigure}
-use Rattle.rules.specs.Core.{sends, answers, notes}
-use Rattle.rules.specs.Incoming.{doMessage, heard}
-use Rattle.rules.specs.Step.{Step, run}
+use Rattle.entry.specs.Entry.{noCounts}
 use Rattle.guarantee.specs.Seen.{came, gave, results, okResults, replies, busResults, closings, elapsed, own, sinceOpen, all}
+use Rattle.rules.specs.BusResult.{doBusResult, isFinal, keptCounts}
+use Rattle.rules.specs.BusStart.{doBusStart}
+use Rattle.rules.specs.Call.{Call, Request, unless, check, callOpen, callClose, callTransmit, callReceive, callBusStart, callBusResult, callMessage, callTime, callConfigure, callUnconfigure}
+use Rattle.rules.specs.Close.{doClose}
+use Rattle.rules.specs.Configure.{doConfigure}
+use Rattle.rules.specs.Core.{sends, answers, notes}
+use Rattle.rules.specs.Deliver.{copyTo, copies}
+use Rattle.rules.specs.Incoming.{doMessage, heard}
+use Rattle.rules.specs.Number.{nextNumber}
+use Rattle.rules.specs.Open.{doOpen}
+use Rattle.rules.specs.Owed.{owedRoom, wantedReplies, isLive}
+use Rattle.rules.specs.Receive.{doReceive}
+use Rattle.rules.specs.State.{fresh}
+use Rattle.rules.specs.Step.{Step, run}
+use Rattle.rules.specs.Time.{doTime}
+use Rattle.rules.specs.Transmit.{doTransmit}
+use Rattle.rules.specs.Unconfigure.{doUnconfigure}
+use Rattle.waits.specs.Waits.{matchTaken}
 
 -- a power status asked for
 abbrev pub asks : Request

@@ -6,13 +6,13 @@ use mathlib.Core.List.{List, [], _∷_, _++_}
 use mathlib.Core.Logic.{_≢_}
 use mathlib.Core.Path.{_≡_}
 use Rattle.lists.specs.Sums.{count}
-use Rattle.inbox.specs.Inboxes.{inboxOf}
-use Rattle.rules.specs.State.{Capabilities, fresh}
-use Rattle.rules.specs.Handles.{isOpen}
-use Rattle.rules.specs.Call.{Call, Request, accepted, callTransmit}
-use Rattle.rules.specs.Transmit.{wantsReply, timeoutOf}
-use Rattle.rules.specs.Step.{Step, run}
 use Rattle.guarantee.specs.Seen.{came, gave, gives, closes, isResult, isReplyEntry, cameTo, results, okResults, replies, busResults, closings, elapsed, own, sinceOpen, all}
+use Rattle.inbox.specs.Inboxes.{inboxOf}
+use Rattle.rules.specs.Call.{Call, Request, accepted, callTransmit}
+use Rattle.rules.specs.Handles.{isOpen}
+use Rattle.rules.specs.State.{Capabilities, fresh}
+use Rattle.rules.specs.Step.{Step, run}
+use Rattle.rules.specs.Transmit.{wantsReply, timeoutOf}
 
 -- What becomes of a transmit of handle h that was accepted and queued under number n, over the calls after it.
 pub record Fate (h : ℕ) (r : Request) (n : ℕ) (later : List Step) : Type 0 where

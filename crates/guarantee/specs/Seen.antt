@@ -1,13 +1,12 @@
 -- What can be seen of a history of calls: read off the calls, their answers and the two states of each, and not off anything that the rules write down about themselves.
 -- Assumes nothing.
-use Prim.Native.Nat.{ℕ, _+_, _-_}
+use Prim.Native.Nat.{ℕ, _-_}
 use mathlib.Core.Bool.{Bool, true, false, cond, _&&_, _||_, not}
 use mathlib.Core.List.{List, [], _∷_, _++_}
 use lib.Dec.{eqb}
 use lib.ListN.{length, drop}
 use Rattle.constants.specs.Kernel.{CEC-TX-STATUS-OK}
 use Rattle.lists.specs.Sums.{sum, count, any}
-use Rattle.lists.specs.Tests.{bit}
 use Rattle.entry.specs.declared.Entry.{Entry}
 use Rattle.inbox.specs.Inboxes.{inboxOf}
 use Rattle.rules.specs.Call.{Call, Answer, refused, done, opened, accepted, received, started, listed, address, callOpen, callClose, callMode, callTransmit, callReceive, callBusStart, callBusResult, callMessage, callTime, callConfigure, callUnconfigure, callListing, callLookup}

@@ -1,70 +1,11 @@
--- The starred known answers of document 01 ("Known answers") as one table: what is done, from which state, and what the last call should give.
+-- The starred known answers of document 01 ("Known answers") as one table.
 -- Assumes nothing.
-use Prim.Native.Nat.{ℕ}
-use mathlib.Core.Bool.{Bool, true, false, _&&_}
-use mathlib.Core.List.{List, [], _∷_, _++_}
-use lib.Dec.{eqb}
-use lib.ListN.{replicate, length}
+use mathlib.Core.Bool.{true, false}
+use mathlib.Core.List.{List, [], _∷_}
 use Rattle.constants.specs.Kernel.{EPERM, EAGAIN, EINVAL}
-use Rattle.entry.specs.Entry.{noCounts}
-use Rattle.rules.specs.Call.{Call, Request, Answer, refused, done, opened, accepted, received, started, listed, address, callOpen, callMode, callTransmit, callReceive, callBusStart, callBusResult, callMessage, callConfigure}
-use Rattle.rules.specs.State.{State, fresh, withLast}
-use Rattle.rules.specs.Step.{step}
-
--- what an answer shows as numbers: the errno, or 0 and its values
-abbrev pub shown : Answer → List ℕ
-shown (refused errno) = errno ∷ []
-shown done = 0 ∷ []
-shown (opened h) = 0 ∷ h ∷ []
-shown (accepted number status) = 0 ∷ number ∷ status ∷ []
-shown (received e) = 0 ∷ e .sequence ∷ e .«tx_status» ∷ e .«rx_status» ∷ []
-shown (started m) = 0 ∷ m .length ∷ m .bytes
-shown (listed rows) = 0 ∷ length rows ∷ []
-shown (address a) = 0 ∷ a ∷ []
-
--- the state after some calls, and the answer of the last of a list of calls
-abbrev pub after : State → List Call → State
-after s [] = s
-after s (c ∷ cs) = after (step s c .state) cs
-
-abbrev pub lastAnswer : State → Answer → List Call → Answer
-lastAnswer s a [] = a
-lastAnswer s a (c ∷ cs) = lastAnswer (step s c .state) (step s c .answer) cs
-
--- "Address 0x1000, mask 0x0010, both capabilities, privileged handle 0 alone open, in mode 0x01, unless said."
-abbrev pub bench : Bool → State
-bench privileged =
-    after (fresh (record { transmit = true; monitorAll = true }))
-    (callOpen privileged
-    ∷ callConfigure (record { «physical_address» = 0x1000; mask = 0x0010; version = 5; «device_type» = 4; «vendor_id» = 0; «name_length» = 1; name = 0x42 ∷ replicate 13 0 })
-    ∷ [])
-
--- bytes, and 0 up to 16
-abbrev pub request : List ℕ → ℕ → Request
-request bytes reply = record { length = length bytes; bytes = bytes ++ replicate 16 0; reply = reply; timeout = 0; flags = 0 }
-
-abbrev pub incoming : List ℕ → Call
-incoming bytes = callMessage (length bytes) (bytes ++ replicate 16 0)
-
--- "sent 40 8F wants 90", its result 0x01 received; then what came, and a receive
-abbrev pub asked : List ℕ → List Call
-asked came =
-    callTransmit 0 (request (0x40 ∷ 0x8F ∷ []) 0x90)
-    ∷ callBusStart
-    ∷ callBusResult 0x01 noCounts
-    ∷ callReceive 0
-    ∷ incoming came
-    ∷ callReceive 0
-    ∷ []
-
--- a message on the wire, and its result
-abbrev pub resulting : ℕ → List Call
-resulting status = callTransmit 0 (request (0x40 ∷ 0x8F ∷ []) 0) ∷ callBusStart ∷ callBusResult status noCounts ∷ []
-
-pub record Case : Type 0 where
-  pub start : State
-  pub calls : List Call
-  pub gives : List ℕ
+use Rattle.rules.specs.Call.{callMode, callTransmit}
+use Rattle.rules.specs.Cases.{Case, bench, request, asked, resulting}
+use Rattle.rules.specs.State.{withLast}
 
 abbrev pub knownAnswers : List Case
 knownAnswers =
@@ -73,22 +14,11 @@ knownAnswers =
     ∷ record { start = bench false; calls = callMode 0 0xE1 ∷ []; gives = EINVAL ∷ [] }
     ∷ record { start = bench false; calls = callMode 0 0xE0 ∷ []; gives = EPERM ∷ [] }
     ∷ record { start = bench true; calls = callTransmit 0 (request (0x44 ∷ []) 0) ∷ []; gives = 0 ∷ 1 ∷ 0x04 ∷ [] }
-    ∷ record { start = bench true; calls = asked (0x04 ∷ 0x90 ∷ 0x00 ∷ []); gives = 0 ∷ 1 ∷ 0 ∷ 0x01 ∷ [] }
-    ∷ record { start = bench true; calls = asked (0x04 ∷ 0x00 ∷ 0x8F ∷ 0x00 ∷ []); gives = 0 ∷ 1 ∷ 0 ∷ 0x05 ∷ [] }
+    ∷ record { start = bench true; calls = asked (0x04 ∷ 0x90 ∷ 0x00 ∷ []); gives = 0 ∷ 1 ∷ 0 ∷ 0x01 ∷ 3 ∷ 0 ∷ 0 ∷ 0 ∷ 0 ∷ [] }
+    ∷ record { start = bench true; calls = asked (0x04 ∷ 0x00 ∷ 0x8F ∷ 0x00 ∷ []); gives = 0 ∷ 1 ∷ 0 ∷ 0x05 ∷ 4 ∷ 0 ∷ 0 ∷ 0 ∷ 0 ∷ [] }
     ∷ record { start = bench true; calls = asked (0x04 ∷ 0x00 ∷ []); gives = EAGAIN ∷ [] }
     ∷ record { start = bench true; calls = asked (0x54 ∷ 0x90 ∷ 0x00 ∷ []); gives = EAGAIN ∷ [] }
     ∷ record { start = bench true; calls = resulting 0x21; gives = EINVAL ∷ [] }
     ∷ record { start = bench true; calls = resulting 0x02; gives = EINVAL ∷ [] }
     ∷ record { start = withLast (bench true) 4294967295; calls = callTransmit 0 (request (0x40 ∷ 0x8F ∷ []) 0) ∷ []; gives = 0 ∷ 1 ∷ 0 ∷ [] }
     ∷ []
-
-abbrev pub same : List ℕ → List ℕ → Bool
-same [] [] = true
-same [] (y ∷ ys) = false
-same (x ∷ xs) [] = false
-same (x ∷ xs) (y ∷ ys) = eqb x y && same xs ys
-
--- whether every case gives what it should
-abbrev pub allGiven : List Case → Bool
-allGiven [] = true
-allGiven (c ∷ cs) = same (shown (lastAnswer (c .start) done (c .calls))) (c .gives) && allGiven cs

@@ -19,4 +19,6 @@ pub mod Incoming
 pub mod Lookup
 pub mod Listing
 pub mod Step
+pub mod Cases
 pub mod KnownAnswers
+pub mod FurtherAnswers
