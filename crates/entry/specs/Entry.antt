@@ -38,7 +38,7 @@ timedOut number sent = received number CEC-RX-STATUS-TIMEOUT sent
 abbrev pub aborted : ℕ → Message → Entry
 aborted number sent = received number CEC-RX-STATUS-ABORTED sent
 
--- "copies ..: rx_status 0x01, sequence 0"
+-- the copy of a message, for a monitor or a follower: "rx_status 0x01, sequence 0"
 abbrev pub messageCopy : Message → Entry
 messageCopy m = received 0 CEC-RX-STATUS-OK m
 

@@ -18,7 +18,7 @@ use Rattle.transmission.specs.Transmission.{headOf}
 use Rattle.transmission.specs.declared.Transmission.{Transmission}
 use Rattle.wait.specs.declared.Wait.{Wait}
 
--- "exactly one of 0x01, 0x20, 0x40, 0x80 in the status"
+-- "exactly one of 0x01, 0x20, 0x40, 0x80 in the status"; "0x02, 0x04, 0x08, 0x10 are free beside it"
 unfoldable pub isFinal : ℕ → Bool
 isFinal status =
     eqb (bit (hasBit CEC-TX-STATUS-OK status) + bit (hasBit CEC-TX-STATUS-MAX-RETRIES status) + bit (hasBit CEC-TX-STATUS-ABORTED status) + bit (hasBit CEC-TX-STATUS-TIMEOUT status)) 1

@@ -52,7 +52,7 @@ pub record Outcome : Type 0 where
 abbrev pub finish : Answer → State → Outcome
 finish a s = record { answer = a; state = s }
 
--- "A refusal returns its number and no other content; nothing changes". The number 0 stands for no refusal
+-- "A refusal returns its number and no other content; nothing changes, lost counts and lent rows included." The number 0 stands for no refusal; the lent rows are in `Listing.rowsAfter`
 unfoldable pub unless : ℕ → State → Outcome → Outcome
 unless errno s o = cond (eqb errno 0) o (finish (refused errno) s)
 

@@ -49,7 +49,7 @@ bench privileged =
     ∷ callConfigure benchSettings
     ∷ [])
 
--- bytes, and 0 up to 16
+-- bytes, and zeros after them
 abbrev pub request : List ℕ → ℕ → Request
 request bytes reply = record { length = length bytes; bytes = bytes ++ replicate 16 0; reply = reply; timeout = 0; flags = 0 }
 

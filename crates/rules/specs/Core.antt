@@ -18,10 +18,11 @@ use Rattle.transmission.specs.Transmission.{ownerless}
 unfoldable pub sends : State → List ℕ → State
 sends s bytes = cond (s .capabilities .transmit) (withQueue s (put 18 (s .queue) (ownerless (message (length bytes) bytes)))) s
 
--- the first byte of what the core sends: "the answer comes from the address asked and, where 15 is not named, goes to the asker"
+-- the first byte of a message: the address that it comes from and that it goes to
 abbrev pub header : ℕ → ℕ → ℕ
 header from to = from * 16 + to
 
+-- "directed": not to 15
 abbrev pub isDirected : Message → Bool
 isDirected m = not (eqb (destination (m .bytes)) CEC-LOG-ADDR-BROADCAST)
 
@@ -62,6 +63,7 @@ nameAnswer x here asker = header here asker ∷ CEC-MSG-SET-OSD-NAME ∷ take (x
 abbrev pub featureAbort : ℕ → ℕ → ℕ → ℕ → List ℕ
 featureAbort here asker code reason = header here asker ∷ CEC-MSG-FEATURE-ABORT ∷ code ∷ reason ∷ []
 
+-- "the answer comes from the address asked and, where 15 is not named, goes to the asker". It is asked for a question only, so the last is that of FF
 abbrev pub coreAnswer : Settings → Message → List ℕ
 coreAnswer x m =
     let here = destination (m .bytes) in

@@ -12,7 +12,7 @@ use Rattle.rules.specs.Handles.{handleAt}
 use Rattle.rules.specs.Owed.{roomTaken}
 use Rattle.rules.specs.State.{State, withHandles, withInboxes}
 
--- an entry to handle h; nobody has a number over 7
+-- an entry to handle h. To a number over 7, which is nobody's, nothing goes; a full inbox stays, which no reached state comes to
 abbrev pub deliver : State → ℕ → Entry → State
 deliver s h e = withInboxes s (delivered (s .inboxes) h e)
 

@@ -1,4 +1,4 @@
--- More answers, worked out by hand from document 01, as one table: the known answers that are not starred, each check of each call, and the places that can be read in two ways.
+-- More answers, worked out by hand from document 01, as one table: the known answers that are not starred, the checks of each call, and places that can be read in two ways.
 -- Assumes nothing.
 use mathlib.Core.Bool.{true, false}
 use mathlib.Core.List.{List, [], _∷_, _++_}
@@ -188,4 +188,18 @@ furtherAnswers =
     -- a closed row, and too few rows
     ∷ record { start = bench true; calls = callClose 0 ∷ callListing (replicate 8 (record { number = 0; «is_open» = false; mode = 0; entries = 0; owed = 0; lost = 0 })) ∷ []; gives = 0 ∷ 0 ∷ 0 ∷ 0 ∷ 0 ∷ 0 ∷ 0 ∷ [] }
     ∷ record { start = bench true; calls = callListing (replicate 7 (record { number = 0; «is_open» = false; mode = 0; entries = 0; owed = 0; lost = 0 })) ∷ []; gives = EINVAL ∷ [] }
+    -- the wire taken and the queue empty
+    ∷ record { start = bench true; calls = callTransmit 0 (request (0x40 ∷ 0x8F ∷ []) 0x00) ∷ callBusStart ∷ callBusStart ∷ []; gives = EBUSY ∷ [] }
+    -- the ARC pair: 0xC0 sent, one report wanted, the other came
+    ∷ record { start = bench true; calls = callTransmit 0 (request (0x40 ∷ 0xC0 ∷ []) 0xC1) ∷ callBusStart ∷ callBusResult 0x01 noCounts ∷ callReceive 0 ∷ incoming (0x04 ∷ 0xC2 ∷ []) ∷ callReceive 0 ∷ []; gives = 0 ∷ 1 ∷ 0 ∷ 1 ∷ 2 ∷ 0 ∷ 0 ∷ 0 ∷ 0 ∷ [] }
+    ∷ record { start = bench true; calls = callTransmit 0 (request (0x40 ∷ 0xC3 ∷ []) 0xC1) ∷ callBusStart ∷ callBusResult 0x01 noCounts ∷ callReceive 0 ∷ incoming (0x04 ∷ 0xC2 ∷ []) ∷ callReceive 0 ∷ []; gives = EAGAIN ∷ [] }
+    -- a reply that is a question too: delivered, answered, not copied even with the flag
+    ∷ record { start = bench true; calls = callOpen true ∷ callMode 1 0x11 ∷ callTransmit 0 (record { length = 2; bytes = (0x40 ∷ 0x9F ∷ []) ++ replicate 16 0; reply = 0x9F; timeout = 0; flags = 1 }) ∷ callBusStart ∷ callBusResult 0x01 noCounts ∷ callReceive 0 ∷ incoming (0x04 ∷ 0x9F ∷ []) ∷ callReceive 0 ∷ []; gives = 0 ∷ 1 ∷ 0 ∷ 1 ∷ 2 ∷ 0 ∷ 0 ∷ 0 ∷ 0 ∷ [] }
+    ∷ record { start = bench true; calls = callOpen true ∷ callMode 1 0x11 ∷ callTransmit 0 (record { length = 2; bytes = (0x40 ∷ 0x9F ∷ []) ++ replicate 16 0; reply = 0x9F; timeout = 0; flags = 1 }) ∷ callBusStart ∷ callBusResult 0x01 noCounts ∷ callReceive 0 ∷ incoming (0x04 ∷ 0x9F ∷ []) ∷ callReceive 1 ∷ []; gives = EAGAIN ∷ [] }
+    ∷ record { start = bench true; calls = callOpen true ∷ callMode 1 0x11 ∷ callTransmit 0 (record { length = 2; bytes = (0x40 ∷ 0x9F ∷ []) ++ replicate 16 0; reply = 0x9F; timeout = 0; flags = 1 }) ∷ callBusStart ∷ callBusResult 0x01 noCounts ∷ callReceive 0 ∷ incoming (0x04 ∷ 0x9F ∷ []) ∷ callBusStart ∷ []; gives = 0 ∷ 3 ∷ 64 ∷ 158 ∷ 5 ∷ 0 ∷ 0 ∷ 0 ∷ 0 ∷ 0 ∷ 0 ∷ 0 ∷ 0 ∷ 0 ∷ 0 ∷ 0 ∷ 0 ∷ 0 ∷ [] }
+    -- a follower that lost its copy is a follower: no Feature Abort
+    ∷ record { start = bench true; calls = callMode 0 0x11 ∷ incoming (0x04 ∷ 0xA0 ∷ []) ∷ incoming (0x04 ∷ 0xA0 ∷ []) ∷ incoming (0x04 ∷ 0xA0 ∷ []) ∷ incoming (0x04 ∷ 0xA0 ∷ []) ∷ incoming (0x04 ∷ 0xA0 ∷ []) ∷ incoming (0x04 ∷ 0xA0 ∷ []) ∷ incoming (0x04 ∷ 0xA0 ∷ []) ∷ incoming (0x04 ∷ 0xA0 ∷ []) ∷ incoming (0x04 ∷ 0xA0 ∷ []) ∷ incoming (0x04 ∷ 0xA0 ∷ []) ∷ incoming (0x04 ∷ 0xA0 ∷ []) ∷ incoming (0x04 ∷ 0xA0 ∷ []) ∷ incoming (0x04 ∷ 0xA0 ∷ []) ∷ incoming (0x04 ∷ 0xA0 ∷ []) ∷ incoming (0x04 ∷ 0xA0 ∷ []) ∷ incoming (0x04 ∷ 0xA0 ∷ []) ∷ incoming (0x04 ∷ 0xA0 ∷ []) ∷ callBusStart ∷ []; gives = EAGAIN ∷ [] }
+    ∷ record { start = bench true; calls = callMode 0 0x11 ∷ incoming (0x04 ∷ 0xA0 ∷ []) ∷ incoming (0x04 ∷ 0xA0 ∷ []) ∷ incoming (0x04 ∷ 0xA0 ∷ []) ∷ incoming (0x04 ∷ 0xA0 ∷ []) ∷ incoming (0x04 ∷ 0xA0 ∷ []) ∷ incoming (0x04 ∷ 0xA0 ∷ []) ∷ incoming (0x04 ∷ 0xA0 ∷ []) ∷ incoming (0x04 ∷ 0xA0 ∷ []) ∷ incoming (0x04 ∷ 0xA0 ∷ []) ∷ incoming (0x04 ∷ 0xA0 ∷ []) ∷ incoming (0x04 ∷ 0xA0 ∷ []) ∷ incoming (0x04 ∷ 0xA0 ∷ []) ∷ incoming (0x04 ∷ 0xA0 ∷ []) ∷ incoming (0x04 ∷ 0xA0 ∷ []) ∷ incoming (0x04 ∷ 0xA0 ∷ []) ∷ incoming (0x04 ∷ 0xA0 ∷ []) ∷ incoming (0x04 ∷ 0xA0 ∷ []) ∷ callListing (replicate 8 (record { number = 0; «is_open» = false; mode = 0; entries = 0; owed = 0; lost = 0 })) ∷ []; gives = 0 ∷ 0 ∷ 1 ∷ 17 ∷ 16 ∷ 0 ∷ 1 ∷ [] }
+    -- a mode that was taken is kept
+    ∷ record { start = bench true; calls = callMode 0 0x31 ∷ callListing (replicate 8 (record { number = 0; «is_open» = false; mode = 0; entries = 0; owed = 0; lost = 0 })) ∷ []; gives = 0 ∷ 0 ∷ 1 ∷ 49 ∷ 0 ∷ 0 ∷ 0 ∷ [] }
     ∷ []

@@ -14,7 +14,7 @@ use Rattle.rules.specs.State.{State, closedHandle}
 abbrev pub handleAt : State → ℕ → Handle
 handleAt s h = getD (s .handles) h closedHandle
 
--- EBADF is for the others: "handle number over 7, or closed"
+-- whether a handle number is open; where it is not: EBADF, "handle number over 7, or closed"
 abbrev pub isOpen : State → ℕ → Bool
 isOpen s h = handleAt s h .«is_open»
 

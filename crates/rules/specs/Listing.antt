@@ -3,7 +3,7 @@
 use Prim.Native.Nat.{ℕ}
 use mathlib.Core.Bool.{true, false, cond}
 use mathlib.Core.List.{List, map, _++_}
-use lib.Dec.{ltb}
+use lib.Dec.{eqb, ltb}
 use lib.ListN.{length, drop}
 use Rattle.constants.specs.Kernel.{EINVAL}
 use Rattle.handle.specs.declared.Row.{Row}
@@ -27,6 +27,10 @@ rowOf s h = cond (isOpen s h)
 -- "rows past 8 stay"
 abbrev pub filledRows : State → List Row → List Row
 filledRows s rows = map (rowOf s) handleNumbers ++ drop 8 rows
+
+-- the lent rows after the call: on a refusal they are as they were
+unfoldable pub rowsAfter : State → List Row → List Row
+rowsAfter s rows = cond (eqb (listingRefusal rows) 0) (filledRows s rows) rows
 
 unfoldable pub doListing : State → List Row → Outcome
 doListing s rows = unless (listingRefusal rows) s (finish (Answer.listed (filledRows s rows)) s)

@@ -19,8 +19,8 @@ abbrev pub isMonitorInitiator : ℕ → Bool
 isMonitorInitiator mode = isMonitor mode && not (eqb (initiatorPart mode) 0)
 
 -- "a follower part (0x10 to 0x30) with low digit 0 or without TRANSMIT"
-abbrev pub isIdleFollower : State → ℕ → Bool
-isIdleFollower s mode = isFollower mode && (eqb (initiatorPart mode) 0 || not (s .capabilities .transmit))
+abbrev pub isUnableFollower : State → ℕ → Bool
+isUnableFollower s mode = isFollower mode && (eqb (initiatorPart mode) 0 || not (s .capabilities .transmit))
 
 -- "0xF0 without MONITOR_ALL"
 abbrev pub isMonitorAllUnable : State → ℕ → Bool
@@ -28,7 +28,7 @@ isMonitorAllUnable s mode = eqb (followerPart mode) CEC-MODE-MONITOR-ALL && not 
 
 -- "any other number .., or ..: EINVAL"
 abbrev pub isModeInvalid : State → ℕ → Bool
-isModeInvalid s mode = not (isMode mode) || isMonitorInitiator mode || isIdleFollower s mode || isMonitorAllUnable s mode
+isModeInvalid s mode = not (isMode mode) || isMonitorInitiator mode || isUnableFollower s mode || isMonitorAllUnable s mode
 
 -- "low digit 2 while another handle has 2, or 0x20 or 0x30 while another has 0x20 or 0x30"
 abbrev pub isRoleHeld : State → ℕ → ℕ → Bool

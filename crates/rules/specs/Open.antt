@@ -17,7 +17,7 @@ lowestClosed s = first (λ x. not (x .«is_open»)) (s .handles)
 abbrev pub openedHandle : Bool → Handle
 openedHandle privileged = record { «is_open» = true; privileged = privileged; mode = CEC-MODE-INITIATOR; lost = 0 }
 
--- "EMFILE: open with 8 handles open"
+-- EMFILE is for "open with 8 handles open"
 abbrev pub openRefusal : State → ℕ
 openRefusal s = check (eqb (lowestClosed s) (length (s .handles))) EMFILE 0
 

@@ -10,7 +10,7 @@ use Rattle.rules.specs.Call.{Outcome, finish, unless, check, Answer}
 use Rattle.rules.specs.Handles.{isOpen}
 use Rattle.rules.specs.State.{State, withInboxes}
 
--- "EAGAIN: receive from an empty inbox"
+-- EAGAIN is for "receive from an empty inbox"
 abbrev pub receiveRefusal : State → ℕ → ℕ
 receiveRefusal s h = check (not (isOpen s h)) EBADF (check (eqb (length (inboxOf (s .inboxes) h)) 0) EAGAIN 0)
 

@@ -65,6 +65,7 @@ isFull s h r =
     || wantsReply r && leb 4 (wantedReplies s h)
     || ltb 16 (roomTaken s h + (1 + bit (wantsReply r)))
 
+-- 1. "EBADF; then ENOTTY; then EPERM for low digit 0." 2. "Another handle is exclusive initiator: EBUSY." Then 3 to 8, with 5. "Unconfigured: allowed only .. (wake-up); otherwise ENONET. A wake-up with reply or timeout non-zero: EINVAL"
 abbrev pub transmitRefusal : State → ℕ → Request → ℕ
 transmitRefusal s h r =
     check (not (isOpen s h)) EBADF

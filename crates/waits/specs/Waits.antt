@@ -38,7 +38,7 @@ takenAt i ws = record { found = ltb i (length ws); wait = getD ws i noWait; rest
 unfoldable pub matchTaken : Message → List Wait → Taken
 matchTaken m ws = takenAt (first (answeredBy m) ws) ws
 
--- the wait that time ends next: "least time left first, oldest first where equal", if it has no more left than that
+-- one at a time of what `rules` does at once: the wait that time ends next, "least time left first, oldest first where equal", if it has no more left than that
 unfoldable pub dueAt : ℕ → List Wait → ℕ
 dueAt ms ws = cond (leb (leftOf (getD ws (least leftOf ws) noWait)) ms) (least leftOf ws) (length ws)
 
