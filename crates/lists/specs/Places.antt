@@ -1,17 +1,17 @@
 -- Places in a list: the first that passes a test, the least by a key, the list without the element at a place.
 -- Assumes nothing.
 use Prim.Native.Nat.{ℕ, zero, suc, _+_, _≤_, _<_}
-use mathlib.Core.Bool.{Bool, true, false, cond, _||_}
+use mathlib.Core.Bool.{Bool, true, false, cond, _||_, _&&_, not}
 use mathlib.Core.List.{List, [], _∷_, _++_}
-use mathlib.Core.Path.{_≡_, refl, _∙_}
+use mathlib.Core.Path.{_≡_, refl, sym, ap, _∙_}
 use native.Mathlib.Numerals.{add-one}
 use native.Mathlib.Omega.{arith}
-use lib.Dec.{ltb}
-use lib.ListN.{length, getD, take, drop}
+use lib.Dec.{eqb, ltb}
+use lib.ListN.{length, getD, take, drop, length-append}
 use lib.Seq.{take-suc, getD-take, length-take-le}
-use borrow.Author.Tests.{lt-ltb, ltb-true, ltb-false}
+use borrow.Author.Tests.{lt-ltb, ltb-true, ltb-false, eqb-true, eqb-false}
 use Rattle.lists.specs.Sums.{any, any-append, sum}
-use Rattle.lists.specs.Tests.{split, clash, neither, or-true}
+use Rattle.lists.specs.Tests.{split, clash, neither, or-true, or-false}
 
 module _ {A : Type 0} where
   -- the place of the first that passes a test; the length where none does
@@ -150,3 +150,18 @@ module _ {A : Type 0} where
   pub drop-empty : (l : List A) → length l ≡ 0 → l ≡ drop 1 l
   drop-empty [] e = refl
   drop-empty (x ∷ l) e = absurd (omega arith)
+
+  -- a loop over all elements but the one at h: one more is looked at, or left out
+  pub any-others : (p : A → Bool) (l : List A) (h i : ℕ) (d : A) → i < length l
+      → any p (without h (take (i + 1) l)) ≡ (any p (without h (take i l)) || not (eqb i h) && p (getD l i d))
+  any-others p l h i d b =
+      let x = getD l i d in
+      let n : length (take i l) ≡ i = length-take-le i l (omega arith) in
+      let t : take (suc i) l ≡ take i l ++ (x ∷ []) = take-suc l i d b in
+      let more : (r : List A) → any p (r ++ (x ∷ [])) ≡ (any p r || p x) = λ r. any-append p r (x ∷ []) ∙ ap (λ (v : Bool). any p r || v) (or-false (p x)) in
+      split (eqb i h)
+      (λ e. let q = eqb-true i h e in
+      rw (e, add-one, ← q, without-last i l b, without-past i (take i l) (omega arith)) (sym (or-false (any p (take i l)))))
+      (λ e. split (ltb i h)
+      (λ f. rw (e, add-one, t, without-past h (take i l ++ (x ∷ [])) (omega (arith, length-append (take i l) (x ∷ []), ltb-true i h f)), without-past h (take i l) (omega (arith, ltb-true i h f))) (more (take i l)))
+      (λ f. rw (e, add-one, t, without-append h (take i l) (x ∷ []) (omega (arith, ltb-false i h f, eqb-false i h e))) (more (without h (take i l)))))
