@@ -17,9 +17,9 @@ use Rattle.rules.specs.Configure.{doConfigure}
 use Rattle.rules.specs.Core.{sends, answers, notes}
 use Rattle.rules.specs.Deliver.{copyTo, copies}
 use Rattle.rules.specs.Incoming.{doMessage, heard}
-use Rattle.rules.specs.Number.{nextNumber}
+use Rattle.rules.specs.Number.{numberAfter}
 use Rattle.rules.specs.Open.{doOpen}
-use Rattle.rules.specs.Owed.{owedRoom, wantedReplies, isLive}
+use Rattle.rules.specs.Owed.{roomOwed, repliesWanted, isTaken}
 use Rattle.rules.specs.Receive.{doReceive}
 use Rattle.rules.specs.State.{fresh}
 use Rattle.rules.specs.Step.{Step, run}
@@ -62,7 +62,7 @@ abbrev answered : List Step
 answered = history (sending ++ (status ∷ status ∷ callReceive 0 ∷ []))
 
 both-answered : (seen 1 (drop 4 answered) ≡ 1 ∷ 1 ∷ 1 ∷ 2 ∷ 0 ∷ 0 ∷ []) × (seen 2 (drop 5 answered) ≡ 1 ∷ 1 ∷ 1 ∷ 2 ∷ 0 ∷ 0 ∷ []) × (entries 0 answered ≡ 2 ∷ 1 ∷ []) × (entries 1 answered ≡ 2 ∷ 0 ∷ [])
-unfolding message isReply matchTaken fresh owedRoom wantedReplies isLive copyTo copies unless check doOpen doClose nextNumber doTransmit doReceive doBusStart doBusResult isFinal keptCounts doTime doConfigure doUnconfigure sends answers notes doMessage heard
+unfolding message isReply matchTaken fresh roomOwed repliesWanted isTaken copyTo copies unless check doOpen doClose numberAfter doTransmit doReceive doBusStart doBusResult isFinal keptCounts doTime doConfigure doUnconfigure sends answers notes doMessage heard
 both-answered = (refl, refl, refl, refl)
 
 -- handle 0 is closed before the replies; time passes: handle 1 has its timeout, number 1 nothing more
@@ -70,7 +70,7 @@ abbrev closed : List Step
 closed = history (sending ++ (callClose 0 ∷ callTime 400 ∷ callTime 600 ∷ status ∷ []))
 
 one-closed : (seen 1 (drop 4 closed) ≡ 1 ∷ 1 ∷ 0 ∷ 2 ∷ 1 ∷ 1000 ∷ []) × (seen 2 (drop 5 closed) ≡ 1 ∷ 1 ∷ 1 ∷ 2 ∷ 1 ∷ 1000 ∷ [])
-unfolding message isReply matchTaken fresh owedRoom wantedReplies isLive copyTo copies unless check doOpen doClose nextNumber doTransmit doReceive doBusStart doBusResult isFinal keptCounts doTime doConfigure doUnconfigure sends answers notes doMessage heard
+unfolding message isReply matchTaken fresh roomOwed repliesWanted isTaken copyTo copies unless check doOpen doClose numberAfter doTransmit doReceive doBusStart doBusResult isFinal keptCounts doTime doConfigure doUnconfigure sends answers notes doMessage heard
 one-closed = (refl, refl)
 
 -- an unconfigure ends the one on the wire and the one that waits
@@ -78,5 +78,5 @@ abbrev ended : List Step
 ended = history (callBusStart ∷ callBusResult 0x01 noCounts ∷ callBusStart ∷ callUnconfigure ∷ [])
 
 all-ended : (seen 1 (drop 4 ended) ≡ 1 ∷ 1 ∷ 1 ∷ 1 ∷ 0 ∷ 0 ∷ []) × (seen 2 (drop 5 ended) ≡ 1 ∷ 0 ∷ 0 ∷ 1 ∷ 0 ∷ 0 ∷ [])
-unfolding message isReply matchTaken fresh owedRoom wantedReplies isLive copyTo copies unless check doOpen doClose nextNumber doTransmit doReceive doBusStart doBusResult isFinal keptCounts doTime doConfigure doUnconfigure sends answers notes doMessage heard
+unfolding message isReply matchTaken fresh roomOwed repliesWanted isTaken copyTo copies unless check doOpen doClose numberAfter doTransmit doReceive doBusStart doBusResult isFinal keptCounts doTime doConfigure doUnconfigure sends answers notes doMessage heard
 all-ended = (refl, refl)

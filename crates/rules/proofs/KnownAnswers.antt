@@ -17,9 +17,9 @@ use Rattle.rules.specs.KnownAnswers.{knownAnswers}
 use Rattle.rules.specs.Listing.{doListing}
 use Rattle.rules.specs.Lookup.{doLookup}
 use Rattle.rules.specs.Mode.{doMode}
-use Rattle.rules.specs.Number.{nextNumber}
+use Rattle.rules.specs.Number.{numberAfter}
 use Rattle.rules.specs.Open.{doOpen}
-use Rattle.rules.specs.Owed.{owedRoom, wantedReplies, isLive}
+use Rattle.rules.specs.Owed.{roomOwed, repliesWanted, isTaken}
 use Rattle.rules.specs.Receive.{doReceive}
 use Rattle.rules.specs.State.{fresh}
 use Rattle.rules.specs.Time.{doTime}
@@ -28,9 +28,9 @@ use Rattle.rules.specs.Unconfigure.{doUnconfigure}
 use Rattle.waits.specs.Waits.{matchTaken}
 
 pub known-answers : allGiven knownAnswers ≡ true
-unfolding message isReply matchTaken fresh owedRoom wantedReplies isLive copyTo copies unless check doOpen doMode nextNumber doTransmit doReceive doBusStart doBusResult isFinal keptCounts doConfigure sends answers notes doMessage heard
+unfolding message isReply matchTaken fresh roomOwed repliesWanted isTaken copyTo copies unless check doOpen doMode numberAfter doTransmit doReceive doBusStart doBusResult isFinal keptCounts doConfigure sends answers notes doMessage heard
 known-answers = refl
 
 pub further-answers : allGiven furtherAnswers ≡ true
-unfolding message isReply matchTaken fresh owedRoom wantedReplies isLive copyTo copies unless check doOpen doClose doMode nextNumber doTransmit doReceive doBusStart doBusResult isFinal keptCounts doTime doConfigure doUnconfigure doListing doLookup sends answers notes doMessage heard
+unfolding message isReply matchTaken fresh roomOwed repliesWanted isTaken copyTo copies unless check doOpen doClose doMode numberAfter doTransmit doReceive doBusStart doBusResult isFinal keptCounts doTime doConfigure doUnconfigure doListing doLookup sends answers notes doMessage heard
 further-answers = refl

@@ -11,23 +11,33 @@ use Rattle.transmission.specs.Transmission.{roomFor, replyFor, numbered}
 use Rattle.transmission.specs.declared.Transmission.{Transmission}
 use Rattle.wait.specs.Wait.{ownedBy}
 use Rattle.wait.specs.Wait
+use Rattle.wait.specs.declared.Wait.{Wait}
 
 -- the transmissions on the wire and queued, in the order in which they go out
 abbrev pub pending : State → List Transmission
 pending s = s .wire ++ s .queue
 
 -- document 01's owed room: "A handle owes room for 1 entry for each of its transmits queued or on the wire, 1 more if that transmit wants a reply, and 1 for each wait."
-unfoldable pub owedRoom : State → ℕ → ℕ
-owedRoom s h = sum (roomFor h) (pending s) + count (ownedBy h) (s .waits)
+unfoldable pub roomOwed : List Transmission → List Wait → ℕ → ℕ
+roomOwed ts ws h = sum (roomFor h) ts + count (ownedBy h) ws
+
+abbrev pub owedRoom : State → ℕ → ℕ
+owedRoom s h = roomOwed (pending s) (s .waits) h
 
 -- "the handle's transmits and waits" that "want one"
-unfoldable pub wantedReplies : State → ℕ → ℕ
-wantedReplies s h = sum (replyFor h) (pending s) + count (ownedBy h) (s .waits)
+unfoldable pub repliesWanted : List Transmission → List Wait → ℕ → ℕ
+repliesWanted ts ws h = sum (replyFor h) ts + count (ownedBy h) ws
+
+abbrev pub wantedReplies : State → ℕ → ℕ
+wantedReplies s h = repliesWanted (pending s) (s .waits) h
 
 -- "entries plus owed room"
 abbrev pub roomTaken : State → ℕ → ℕ
 roomTaken s h = length (inboxOf (s .inboxes) h) + owedRoom s h
 
 -- "every number still queued, on the wire or waiting"
-unfoldable pub isLive : State → ℕ → Bool
-isLive s n = any (numbered n) (pending s) || any (Wait.numbered n) (s .waits)
+unfoldable pub isTaken : List Transmission → List Wait → ℕ → Bool
+isTaken ts ws n = any (numbered n) ts || any (Wait.numbered n) ws
+
+abbrev pub isLive : State → ℕ → Bool
+isLive s n = isTaken (pending s) (s .waits) n
