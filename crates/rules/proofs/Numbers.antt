@@ -14,7 +14,6 @@ use Rattle.lists.specs.Sums.{any, count, any-none, none-any}
 use Rattle.lists.specs.Tests.{split, clash, neither}
 use Rattle.rules.specs.Number.{greatest, candidate, firstFree, numberAfter}
 use Rattle.rules.specs.Owed.{isTaken}
-use Rattle.rules.specs.State.{State}
 use Rattle.transmission.specs.Transmission.{numbered}
 use Rattle.transmission.specs.declared.Transmission.{Transmission}
 use Rattle.wait.specs.Wait
@@ -98,6 +97,7 @@ module _ (ts : List Transmission) (ws : List Wait) (last : ℕ) where
     where
       n : ℕ
       n = suc (length ts + length ws)
+
       go : (isTaken ts ws (firstFree (isTaken ts ws) last (length ts + length ws) 0) ≡ false) ⊎ ((i : ℕ) → 0 ≤ i → i < 0 + suc (length ts + length ws) → isTaken ts ws (candidate last i) ≡ true)
           → isTaken ts ws (firstFree (isTaken ts ws) last (length ts + length ws) 0) ≡ false
       go (inl f) = f

@@ -1,6 +1,5 @@
 // The wire: at most one transmission.
 ghost use Prim.Native.Nat.{_≤_};
-ghost use lib.Dec.{ltb};
 ghost use mathlib.Core.Path.{_≡_};
 ghost use mathlib.Core.List.{[], map};
 ghost use lib.ListN.{length, drop};
@@ -35,10 +34,11 @@ impl Wire {
         }
     }
 
-    pub fn is_busy(self) -> bool
-        ensures { λ r. ⌜ r ≡ ltb 0 (length (wireOf self)) ⌝ }
+    pub fn count(self) -> usize
+        ensures { λ r. ⌜ r ≡ length (wireOf self) ⌝ }
+        ensures { λ r. ⌜ r ≤ 1 ⌝ }
     {
-        self.busy
+        if self.busy { 1 } else { 0 }
     }
 
     // Taken by a transmission; a busy wire stays.
