@@ -53,3 +53,11 @@ byte-bit false = refl
 pub bit-not : (b : Bool) → 1 - bit b ≡ bit (not b)
 bit-not true = refl
 bit-not false = refl
+
+pub and-true : (a : Bool) → (a && true) ≡ a
+and-true true = refl
+and-true false = refl
+
+pub and-false : (a : Bool) → (a && false) ≡ false
+and-false true = refl
+and-false false = refl

@@ -2,9 +2,9 @@
 -- Assumes nothing.
 use Prim.Native.Nat.{ℕ, _-_, _/_, _%_, _^_}
 use mathlib.Core.Bool.{Bool, _&&_, _||_, not}
-use lib.Dec.{eqb}
+use lib.Dec.{eqb, ltb}
 use lib.ListN.{getD}
-use Rattle.constants.specs.Kernel.{CEC-MODE-EXCL-INITIATOR, CEC-MODE-FOLLOWER, CEC-MODE-EXCL-FOLLOWER, CEC-MODE-EXCL-FOLLOWER-PASSTHRU, CEC-MODE-MONITOR, CEC-MODE-MONITOR-ALL, CEC-PHYS-ADDR-INVALID, CEC-LOG-ADDR-BROADCAST}
+use Rattle.constants.specs.Kernel.{CEC-MODE-EXCL-INITIATOR, CEC-MODE-FOLLOWER, CEC-MODE-EXCL-FOLLOWER, CEC-MODE-EXCL-FOLLOWER-PASSTHRU, CEC-MODE-MONITOR, CEC-MODE-MONITOR-ALL, CEC-PHYS-ADDR-INVALID, CEC-LOG-ADDR-BROADCAST, CEC-LOG-ADDR-UNREGISTERED}
 use Rattle.lists.specs.Places.{without}
 use Rattle.lists.specs.Sums.{any}
 use Rattle.handle.specs.declared.Handle.{Handle}
@@ -64,9 +64,9 @@ isConfigured s = not (eqb (s .settings .«physical_address») CEC-PHYS-ADDR-INVA
 abbrev pub hasBit : ℕ → ℕ → Bool
 hasBit value n = eqb (n / value % 2) 1
 
--- an own logical address: "a 16-bit mask of own logical addresses"; unconfigured, none is
+-- an own logical address, "a 16-bit mask of own logical addresses": unconfigured, none is, and 15 never is
 abbrev pub isOwn : State → ℕ → Bool
-isOwn s a = isConfigured s && hasBit (2 ^ a) (s .settings .mask)
+isOwn s a = isConfigured s && ltb a CEC-LOG-ADDR-UNREGISTERED && hasBit (2 ^ a) (s .settings .mask)
 
 -- addressed to the adapter: "to 15 or an own address"
 abbrev pub isHere : State → ℕ → Bool
