@@ -1,7 +1,7 @@
 // The eight handles, by number, and the roles that their modes give them.
 ghost use Prim.Native.Nat.{_≤_};
 ghost use mathlib.Core.Path.{_≡_};
-ghost use lib.ListN.{getD, set, replicate};
+ghost use lib.ListN.{length, getD, set, replicate};
 ghost use Rattle.lists.specs.Places.{first, without};
 ghost use Rattle.rules.specs.State.{closedHandle};
 ghost use Rattle.handles.specs.Roles.{handlesOf, isClosed, rolesOf};
@@ -41,6 +41,12 @@ impl Handles {
         Handles {
             slots: [closed(); 8],
         }
+    }
+
+    pub fn count(self) -> u8
+        ensures { λ r. ⌜ r ≡ length (handlesOf self) ⌝ }
+    {
+        8
     }
 
     // The handle of a number; that of a number over 7 is a closed one.

@@ -1,9 +1,14 @@
 -- The adapter's parts as the code holds them, read as a state (document 01, "The adapter's parts").
 -- Assumes nothing.
+use Prim.Native.Nat.{ℕ}
+use mathlib.Core.Bool.{cond}
+use lib.Dec.{eqb}
 use Rattle.handles.specs.Roles.{handlesOf}
 use Rattle.inbox.specs.Inboxes.{inboxesOf}
+use Rattle.parts.specs.declared.Done.{Done}
 use Rattle.parts.specs.declared.Parts.{Parts}
 use Rattle.queue.specs.Queue.{queueOf}
+use Rattle.rules.specs.Call.{Answer, Outcome, finish, refused, done}
 use Rattle.rules.specs.State.{State}
 use Rattle.traffic.specs.Traffic.{waitingOf}
 use Rattle.wire.specs.Wire.{wireOf}
@@ -20,3 +25,10 @@ stateOf p = record {
   settings = p .settings;
   noted = p .noted;
 }
+
+-- an answer that gives nothing more: the errno, or success
+abbrev pub orRefused : ℕ → Answer → Answer
+orRefused errno a = cond (eqb errno 0) a (refused errno)
+
+abbrev pub doneOf : Done → Outcome
+doneOf r = finish (orRefused (r .errno) done) (stateOf (r .parts))

@@ -1,6 +1,7 @@
 // The adapter's parts, and what each call asks of them.
 ghost use Prim.Native.Nat.{_≤_};
 ghost use mathlib.Core.Path.{_≡_};
+ghost use Rattle.rules.specs.Call.{check};
 ghost use Rattle.rules.specs.Handles.{handleAt, isOpen, isConfigured, isOwn};
 ghost use Rattle.rules.specs.Owed.{roomTaken, wantedReplies};
 ghost use Rattle.rules.specs.State.{fresh, noSettings};
@@ -23,6 +24,20 @@ pub struct Parts {
     pub last: u32,
     pub settings: Settings,
     pub noted: [u16; 15],
+}
+
+// The parts after a call that gives nothing more, and its errno, 0 for success.
+#[repr(C)]
+pub struct Done {
+    pub parts: Parts,
+    pub errno: u32,
+}
+
+// One check of several, in their order: its number if the test holds, else what the later ones say.
+pub fn check(test: bool, errno: u32, later: u32) -> u32
+    ensures { λ r. ⌜ r ≡ check test errno later ⌝ }
+{
+    if test { errno } else { later }
 }
 
 fn no_settings() -> Settings

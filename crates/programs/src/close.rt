@@ -1,0 +1,43 @@
+// Close.
+ghost use mathlib.Core.Logic.{_≢_};
+ghost use mathlib.Core.Path.{_≡_};
+ghost use Rattle.parts.specs.Parts.{stateOf, doneOf};
+ghost use Rattle.rules.specs.Close.{doClose, closeRefusal};
+use constants::EBADF;
+use handle::Handle;
+use parts::Done;
+use parts::Parts;
+use parts::check;
+
+fn close_errno(parts: Parts, handle: u8) -> u32
+    ensures { λ r. ⌜ r ≡ closeRefusal (stateOf parts) handle ⌝ }
+{
+    check(!parts.is_open(handle), EBADF, 0)
+}
+
+pub fn close(parts: Parts, handle: u8) -> Done
+    ensures { λ r. ⌜ doneOf r ≡ doClose (stateOf parts) handle ⌝ }
+    ensures { λ r. ⌜ (r .errno ≢ 0 → r .parts ≡ parts) ⌝ }
+{
+    let errno = close_errno(parts, handle);
+    if errno != 0 {
+        return Done {
+            parts: parts,
+            errno: errno,
+        };
+    }
+    let closed = Handle {
+        is_open: false,
+        privileged: false,
+        mode: 0,
+        lost: 0,
+    };
+    let mut after = parts;
+    after.handles = parts.handles.with(handle, closed);
+    after.inboxes = parts.inboxes.clear(handle);
+    after.traffic = parts.traffic.without_handle(handle);
+    Done {
+        parts: after,
+        errno: 0,
+    }
+}
