@@ -58,6 +58,10 @@ isMisaddressed s r =
 abbrev pub isSelfPoll : State → Request → Bool
 isSelfPoll s r = isPoll r && isOwn s (to r)
 
+-- "the new room (1, or 2 with a reply)"
+abbrev pub newRoom : Request → ℕ
+newRoom r = 1 + bit (wantsReply r)
+
 -- 8. "Queue holds 18; or a reply is wanted and 4 of the handle's transmits and waits already want one; or entries plus owed room plus the new room (1, or 2 with a reply) exceeds 16"
 abbrev pub isFull : State → ℕ → Request → Bool
 isFull s h r =

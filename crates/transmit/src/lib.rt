@@ -1,0 +1,146 @@
+// Transmit.
+ghost use Prim.Native.Nat.{_≤_};
+ghost use mathlib.Core.Logic.{_≢_};
+ghost use mathlib.Core.Path.{_≡_};
+ghost use Rattle.parts.specs.Parts.{stateOf};
+ghost use Rattle.rules.specs.Transmit.{isMisaddressed, isSelfPoll, isFull, transmitRefusal, transmissionOf, newRoom, doTransmit};
+ghost use Rattle.transmit.specs.Request.{requestOf, transmittedOf};
+
+pub mod request;
+
+use constants::CEC_LOG_ADDR_UNREGISTERED;
+use constants::CEC_MODE_NO_INITIATOR;
+use constants::CEC_MSG_FL_REPLY_TO_FOLLOWERS;
+use constants::CEC_TX_STATUS_NACK;
+use constants::EBADF;
+use constants::EBUSY;
+use constants::EINVAL;
+use constants::ENONET;
+use constants::ENOTTY;
+use constants::EPERM;
+use handles::mode::initiator_part;
+use parts::Parts;
+use parts::check;
+use request::Request;
+use transmission::Transmission;
+
+// The parts after the call, its errno, 0 for success, the sequence number and tx_status.
+#[repr(C)]
+pub struct Transmitted {
+    pub parts: Parts,
+    pub errno: u32,
+    pub number: u32,
+    pub tx_status: u8,
+}
+
+fn is_misaddressed(parts: Parts, request: Request) -> bool
+    ensures { λ r. ⌜ r ≡ isMisaddressed (stateOf parts) (requestOf request) ⌝ }
+{
+    let from = request.initiator();
+    !((from == CEC_LOG_ADDR_UNREGISTERED) | parts.is_own(from))
+        | (2 <= request.length) & parts.is_own(request.destination())
+}
+
+fn is_self_poll(parts: Parts, request: Request) -> bool
+    ensures { λ r. ⌜ r ≡ isSelfPoll (stateOf parts) (requestOf request) ⌝ }
+{
+    request.is_poll() & parts.is_own(request.destination())
+}
+
+// Room for a result, and for a reply.
+fn new_room(request: Request) -> usize
+    ensures { λ r. ⌜ r ≡ newRoom (requestOf request) ⌝ }
+    ensures { λ r. ⌜ r ≤ 2 ⌝ }
+{
+    if request.wants_reply() { 2 } else { 1 }
+}
+
+fn is_full(parts: Parts, handle: u8, request: Request) -> bool
+    ensures { λ r. ⌜ r ≡ isFull (stateOf parts) handle (requestOf request) ⌝ }
+{
+    (18 <= parts.traffic.queue.count())
+        | request.wants_reply() & (4 <= parts.wanted_replies(handle))
+        | (16 < parts.room_taken(handle) + new_room(request))
+}
+
+// The checks in their order.
+fn transmit_errno(parts: Parts, handle: u8, request: Request) -> u32
+    ensures { λ r. ⌜ r ≡ transmitRefusal (stateOf parts) handle (requestOf request) ⌝ }
+{
+    let configured = parts.is_configured();
+    let full = check(
+        !is_self_poll(parts, request) & is_full(parts, handle, request),
+        EBUSY,
+        0,
+    );
+    let address = check(configured & is_misaddressed(parts, request), EINVAL, full);
+    let reply = check(!configured & request.wants_reply(), EINVAL, address);
+    let wake_up = check(!configured & !request.is_wake_up(), ENONET, reply);
+    let poll = check(request.is_poll_invalid(), EINVAL, wake_up);
+    let form = check(request.is_malformed(), EINVAL, poll);
+    let others = parts.handles.roles(handle);
+    let role = check(others.exclusive_initiator, EBUSY, form);
+    let initiator = check(
+        initiator_part(parts.handle_at(handle).mode) == CEC_MODE_NO_INITIATOR,
+        EPERM,
+        role,
+    );
+    check(
+        !parts.is_open(handle),
+        EBADF,
+        check(!parts.can_transmit, ENOTTY, initiator),
+    )
+}
+
+fn transmission(number: u32, handle: u8, request: Request) -> Transmission
+    ensures { λ r. ⌜ r ≡ transmissionOf number handle (requestOf request) ⌝ }
+{
+    Transmission {
+        number: number,
+        owner: handle,
+        wants_reply: request.wants_reply(),
+        reply: request.reply,
+        timeout: request.timeout_ms(),
+        to_followers: request.flags == CEC_MSG_FL_REPLY_TO_FOLLOWERS,
+        message: request.message(),
+    }
+}
+
+pub fn transmit(parts: Parts, handle: u8, request: Request) -> Transmitted
+    ensures { λ r. ⌜ transmittedOf r ≡ doTransmit (stateOf parts) handle (requestOf request) ⌝ }
+    ensures { λ r. ⌜ (r .errno ≢ 0 → r .parts ≡ parts) ⌝ }
+{
+    let errno = transmit_errno(parts, handle, request);
+    if errno != 0 {
+        return Transmitted {
+            parts: parts,
+            errno: errno,
+            number: 0,
+            tx_status: 0,
+        };
+    }
+    let number = parts.traffic.next_number(parts.last);
+    let mut after = parts;
+    after.last = number;
+    if is_self_poll(parts, request) {
+        return Transmitted {
+            parts: after,
+            errno: 0,
+            number: number,
+            tx_status: CEC_TX_STATUS_NACK,
+        };
+    }
+    let queue = parts
+        .traffic
+        .queue
+        .put(transmission(number, handle, request));
+    let mut traffic = parts.traffic;
+    traffic.queue = queue;
+    after.traffic = traffic;
+    Transmitted {
+        parts: after,
+        errno: 0,
+        number: number,
+        tx_status: 0,
+    }
+}

@@ -1,0 +1,85 @@
+// What a transmit is asked for, and the checks that look at nothing else.
+ghost use mathlib.Core.Path.{_≡_};
+ghost use Rattle.rules.specs.Transmit.{messageOf, from, to, wantsReply, isPoll, isMalformed, isPollInvalid, isWakeUp, timeoutOf};
+ghost use Rattle.transmit.specs.Request.{requestOf};
+use constants::CEC_LOG_ADDR_BROADCAST;
+use constants::CEC_LOG_ADDR_UNREGISTERED;
+use constants::CEC_MSG_FL_REPLY_TO_FOLLOWERS;
+use constants::CEC_MSG_IMAGE_VIEW_ON;
+use constants::CEC_MSG_TEXT_VIEW_ON;
+use message::Message;
+
+#[repr(C)]
+pub struct Request {
+    pub length: u8,
+    pub bytes: [u8; 16],
+    pub reply: u8,
+    pub timeout: u32,
+    pub flags: u32,
+}
+
+impl Request {
+    // What would be sent.
+    pub fn message(self) -> Message
+        ensures { λ r. ⌜ r ≡ messageOf (requestOf self) ⌝ }
+    {
+        let bytes = self.bytes;
+        Message::new(self.length, bytes)
+    }
+
+    pub fn initiator(self) -> u8
+        ensures { λ r. ⌜ r ≡ from (requestOf self) ⌝ }
+    {
+        self.message().initiator()
+    }
+
+    pub fn destination(self) -> u8
+        ensures { λ r. ⌜ r ≡ to (requestOf self) ⌝ }
+    {
+        self.message().destination()
+    }
+
+    pub fn wants_reply(self) -> bool
+        ensures { λ r. ⌜ r ≡ wantsReply (requestOf self) ⌝ }
+    {
+        (self.reply != 0) | (self.timeout != 0)
+    }
+
+    pub fn is_poll(self) -> bool
+        ensures { λ r. ⌜ r ≡ isPoll (requestOf self) ⌝ }
+    {
+        self.length == 1
+    }
+
+    pub fn is_malformed(self) -> bool
+        ensures { λ r. ⌜ r ≡ isMalformed (requestOf self) ⌝ }
+    {
+        !((1 <= self.length) & (self.length <= 16)) | (CEC_MSG_FL_REPLY_TO_FOLLOWERS < self.flags)
+    }
+
+    pub fn is_poll_invalid(self) -> bool
+        ensures { λ r. ⌜ r ≡ isPollInvalid (requestOf self) ⌝ }
+    {
+        self.is_poll() & ((self.destination() == CEC_LOG_ADDR_BROADCAST) | self.wants_reply())
+    }
+
+    pub fn is_wake_up(self) -> bool
+        ensures { λ r. ⌜ r ≡ isWakeUp (requestOf self) ⌝ }
+    {
+        let code = self.message().opcode();
+        (self.initiator() == CEC_LOG_ADDR_UNREGISTERED)
+            & (self.destination() == 0)
+            & (self.is_poll() | (code == CEC_MSG_IMAGE_VIEW_ON) | (code == CEC_MSG_TEXT_VIEW_ON))
+    }
+
+    // The timeout in milliseconds: 1000 for 0, if a reply is wanted.
+    pub fn timeout_ms(self) -> u32
+        ensures { λ r. ⌜ r ≡ timeoutOf (requestOf self) ⌝ }
+    {
+        if self.wants_reply() & (self.timeout == 0) {
+            1000
+        } else {
+            self.timeout
+        }
+    }
+}
