@@ -1,0 +1,57 @@
+// Bus start.
+ghost use mathlib.Core.Logic.{_≢_};
+ghost use mathlib.Core.Path.{_≡_};
+ghost use Rattle.bus.specs.Bus.{startedOf};
+ghost use Rattle.parts.specs.Parts.{stateOf};
+ghost use Rattle.rules.specs.BusStart.{doBusStart, busStartRefusal};
+use constants::EAGAIN;
+use constants::EBUSY;
+use message::Message;
+use parts::Parts;
+use parts::check;
+
+// The parts after the call, its errno, 0 for success, and what goes out.
+#[repr(C)]
+pub struct Started {
+    pub parts: Parts,
+    pub errno: u32,
+    pub message: Message,
+}
+
+fn bus_start_errno(parts: Parts) -> u32
+    ensures { λ r. ⌜ r ≡ busStartRefusal (stateOf parts) ⌝ }
+{
+    check(
+        0 < parts.traffic.wire.count(),
+        EBUSY,
+        check(parts.traffic.queue.count() == 0, EAGAIN, 0),
+    )
+}
+
+pub fn bus_start(parts: Parts) -> Started
+    ensures { λ r. ⌜ startedOf r ≡ doBusStart (stateOf parts) ⌝ }
+    ensures { λ r. ⌜ (r .errno ≢ 0 → r .parts ≡ parts) ⌝ }
+{
+    let errno = bus_start_errno(parts);
+    if errno != 0 {
+        return Started {
+            parts: parts,
+            errno: errno,
+            message: Message::new(0, [0; 16]),
+        };
+    }
+    let taken = parts.traffic.queue.take();
+    let head = taken.transmission;
+    let mut traffic = parts.traffic;
+    let queue = taken.queue;
+    traffic.queue = queue;
+    traffic.wire = parts.traffic.wire.put(head);
+    let mut after = parts;
+    after.traffic = traffic;
+    let message = head.message;
+    Started {
+        parts: after,
+        errno: 0,
+        message: message,
+    }
+}

@@ -1,0 +1,51 @@
+-- A copy that is kept or lost, and copies one after the other.
+-- Assumes nothing.
+use Prim.Native.Nat.{ℕ, zero, suc, _+_, _<_}
+use mathlib.Core.Bool.{cond}
+use mathlib.Core.List.{List, [], _∷_, _++_}
+use mathlib.Core.Path.{_≡_, refl, _∙_, ap}
+use native.Mathlib.Numerals.{add-one}
+use native.Mathlib.Omega.{arith}
+use lib.Dec.{eqb}
+use lib.ListN.{length, getD, set, take}
+use lib.Seq.{take-suc}
+use borrow.Author.Tests.{eq-eqb, ne-eqb}
+use Rattle.entry.specs.declared.Entry.{Entry}
+use Rattle.handle.specs.declared.Handle.{Handle}
+use Rattle.inbox.specs.Inboxes.{delivered}
+use Rattle.rules.specs.Deliver.{copyTo, copies, each, handleNumbers, loses}
+use Rattle.rules.specs.Handles.{handleAt, inRole}
+use Rattle.rules.specs.Owed.{roomTaken}
+use Rattle.rules.specs.State.{State, withHandles, withInboxes}
+use Rattle.copies.specs.Kinds.{getsCopies}
+
+pub copy-lost : (e : Entry) (s : State) (h : ℕ) (hs : List Handle) → roomTaken s h ≡ 16 → hs ≡ set (s .handles) h (loses (handleAt s h)) → withHandles s hs ≡ copyTo e s h
+unfolding copyTo
+copy-lost e s h hs r q = rw (eq-eqb (roomTaken s h) 16 r, q)
+
+pub copy-kept : (e : Entry) (s : State) (h : ℕ) (is : List (List Entry)) → (roomTaken s h ≡ 16 → ⊥) → is ≡ delivered (s .inboxes) h e → withInboxes s is ≡ copyTo e s h
+unfolding copyTo
+copy-kept e s h is r q = rw (ne-eqb (roomTaken s h) 16 r, q)
+
+-- one turn of the copies
+abbrev pub copyIf : ℕ → Entry → State → ℕ → State
+copyIf kind e t h = cond (inRole (getsCopies kind) (handleAt t h)) (copyTo e t h) t
+
+each-last : (f : State → ℕ → State) (s : State) (xs : List ℕ) (x : ℕ) → each f s (xs ++ (x ∷ [])) ≡ f (each f s xs) x
+each-last f s [] x = refl
+each-last f s (y ∷ xs) x = each-last f (f s y) xs x
+
+number-at : (h : ℕ) → h < 8 → getD handleNumbers h 0 ≡ h
+number-at zero b = refl
+number-at (suc zero) b = refl
+number-at (suc (suc zero)) b = refl
+number-at (suc (suc (suc zero))) b = refl
+number-at (suc (suc (suc (suc zero)))) b = refl
+number-at (suc (suc (suc (suc (suc zero))))) b = refl
+number-at (suc (suc (suc (suc (suc (suc zero)))))) b = refl
+number-at (suc (suc (suc (suc (suc (suc (suc zero))))))) b = refl
+number-at (suc (suc (suc (suc (suc (suc (suc (suc h)))))))) b = absurd (omega arith)
+
+pub each-next : (f : State → ℕ → State) (s : State) (h : ℕ) → h < 8 → each f s (take (h + 1) handleNumbers) ≡ f (each f s (take h handleNumbers)) h
+each-next f s h b =
+    rw (add-one, take-suc handleNumbers h 0 b, number-at h b) (each-last f s (take h handleNumbers) h)

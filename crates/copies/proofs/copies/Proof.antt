@@ -1,0 +1,57 @@
+-- `copies::copies` meets its contract. Assumes nothing.
+use Prim.Native.Nat.{ℕ}
+use mathlib.Core.Path.{ap}
+use Rattle.rules.specs.State.{State}
+use Prim.Native.Nat.{_≤_, _-_}
+use mathlib.Core.Path.{_≡_, refl, sym, _∙_}
+use native.Mathlib.Omega.{arith}
+use lib.ListN.{take}
+use Rattle.parts.specs.Parts.{stateOf}
+use Rattle.rules.specs.Deliver.{each, handleNumbers, copies}
+use Rattle.copies.proofs.Turns.{copyIf, each-next}
+use borrow.Author.Needs.{needs}
+use Rattle.copies.proofs.copies.Statement.{statement}
+use Rattle.copies.proofs.copies.Tie as tie
+use Rattle.copies.proofs.copies.Reads as reads
+use Rattle.copies.proofs.copies.Lts as lts
+use Rattle.copies.proofs.copy_if.Reads as copy-if-reads
+
+abbrev Inv-loop : tie.InvT-loop
+Inv-loop kind entry after₀ handle₀ after handle = (handle ≤ 8) × (stateOf after ≡ each (copyIf kind entry) (stateOf after₀) (take handle handleNumbers))
+
+abbrev μ-loop : tie.MeasureT-loop
+μ-loop kind entry after₀ handle₀ after handle = 8 - handle
+
+loop-holds : tie.Need-loop-holds Inv-loop μ-loop
+loop-holds c = (omega arith, refl)
+
+copy-if-requires : tie.Need-copy-if-requires Inv-loop μ-loop
+copy-if-requires c κs = search needs
+
+add-handle : tie.Need-add-handle Inv-loop μ-loop
+add-handle c = search needs
+
+loop-less : tie.Need-loop-less Inv-loop μ-loop
+loop-less c = search needs
+
+loop-again : tie.Need-loop-again Inv-loop μ-loop
+loop-again c =
+    let l = c .before .before .loop in
+    let a = c .before .before .before .args in
+    (omega arith,
+      c .copy-if .ensures
+      ∙ ap (λ (t : State). copyIf (a .kind) (a .entry) t (l .handle)) (l .inv .1)
+      ∙ sym (each-next (copyIf (a .kind) (a .entry)) (stateOf (a .parts)) (l .handle) (omega arith)))
+
+returns : tie.Need-returns Inv-loop μ-loop
+unfolding copies
+returns c =
+    let l = c .before .loop in
+    let a = c .before .before .args in
+    let e : l .handle ≡ 8 = omega arith in
+    l .inv .1 ∙ ap (λ (n : ℕ). each (copyIf (a .kind) (a .entry)) (stateOf (a .parts)) (take n handleNumbers)) e
+
+pub copies-spec : {M : Type 1} → statement M
+copies-spec =
+    tie.close
+    (tie.spec Inv-loop μ-loop loop-holds copy-if-requires add-handle loop-less loop-again returns)
