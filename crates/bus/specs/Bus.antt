@@ -1,8 +1,16 @@
--- The answer of bus start, read as an outcome of the rules.
+-- The answer of bus start, read as an outcome of the rules, and the bits of a status that have a count.
 -- Assumes nothing.
+use Prim.Native.Nat.{ℕ}
+use mathlib.Core.Bool.{Bool, _||_}
+use lib.Dec.{eqb}
+use Rattle.constants.specs.Kernel.{CEC-TX-STATUS-ARB-LOST, CEC-TX-STATUS-NACK, CEC-TX-STATUS-LOW-DRIVE, CEC-TX-STATUS-ERROR}
 use Rattle.bus.specs.declared.start.Started.{Started}
 use Rattle.parts.specs.Parts.{stateOf, orRefused}
 use Rattle.rules.specs.Call.{Outcome, finish, started}
 
 abbrev pub startedOf : Started → Outcome
 startedOf r = finish (orRefused (r .errno) (started (r .message))) (stateOf (r .parts))
+
+-- the bits that have a count: "arbitration 0x02, NACK 0x04, low drive 0x08, error 0x10"
+abbrev pub isCountedBit : ℕ → Bool
+isCountedBit b = eqb b CEC-TX-STATUS-ARB-LOST || eqb b CEC-TX-STATUS-NACK || eqb b CEC-TX-STATUS-LOW-DRIVE || eqb b CEC-TX-STATUS-ERROR

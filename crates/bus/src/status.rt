@@ -1,8 +1,10 @@
 // Masks on the status byte of a bus result.
+ghost use mathlib.Core.Bool.{true, cond};
 ghost use mathlib.Core.Path.{_≡_};
+ghost use Rattle.constants.specs.Kernel.{CEC-TX-STATUS-OK};
 ghost use Rattle.rules.specs.BusResult.{isFinal, keptCounts};
 ghost use Rattle.rules.specs.Handles.{hasBit};
-ghost use Rattle.constants.specs.Kernel.{CEC-TX-STATUS-OK};
+ghost use Rattle.bus.specs.Bus.{isCountedBit};
 use constants::CEC_TX_STATUS_ABORTED;
 use constants::CEC_TX_STATUS_ARB_LOST;
 use constants::CEC_TX_STATUS_ERROR;
@@ -32,4 +34,23 @@ pub fn is_ok(status: u8) -> bool
     ensures { λ r. ⌜ r ≡ hasBit CEC-TX-STATUS-OK status ⌝ }
 {
     status & CEC_TX_STATUS_OK != 0
+}
+
+// A count, if its bit is set.
+fn kept(status: u8, bit: u8, count: u8) -> u8
+    requires { ⌜ isCountedBit bit ≡ true ⌝ }
+    ensures { λ r. ⌜ r ≡ cond (hasBit bit status) count 0 ⌝ }
+{
+    if status & bit != 0 { count } else { 0 }
+}
+
+pub fn kept_counts(status: u8, counts: Counts) -> Counts
+    ensures { λ r. ⌜ r ≡ keptCounts status counts ⌝ }
+{
+    Counts {
+        arb_lost: kept(status, CEC_TX_STATUS_ARB_LOST, counts.arb_lost),
+        nack: kept(status, CEC_TX_STATUS_NACK, counts.nack),
+        low_drive: kept(status, CEC_TX_STATUS_LOW_DRIVE, counts.low_drive),
+        error: kept(status, CEC_TX_STATUS_ERROR, counts.error),
+    }
 }

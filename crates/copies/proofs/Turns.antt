@@ -3,21 +3,20 @@
 use Prim.Native.Nat.{ℕ, zero, suc, _+_, _<_}
 use mathlib.Core.Bool.{cond}
 use mathlib.Core.List.{List, [], _∷_, _++_}
-use mathlib.Core.Path.{_≡_, refl, _∙_, ap}
+use mathlib.Core.Path.{_≡_, refl}
 use native.Mathlib.Numerals.{add-one}
 use native.Mathlib.Omega.{arith}
-use lib.Dec.{eqb}
-use lib.ListN.{length, getD, set, take}
+use lib.ListN.{getD, set, take}
 use lib.Seq.{take-suc}
 use borrow.Author.Tests.{eq-eqb, ne-eqb}
+use Rattle.copies.specs.Kinds.{getsCopies}
 use Rattle.entry.specs.declared.Entry.{Entry}
 use Rattle.handle.specs.declared.Handle.{Handle}
 use Rattle.inbox.specs.Inboxes.{delivered}
-use Rattle.rules.specs.Deliver.{copyTo, copies, each, handleNumbers, loses}
+use Rattle.rules.specs.Deliver.{copyTo, each, handleNumbers, loses}
 use Rattle.rules.specs.Handles.{handleAt, inRole}
 use Rattle.rules.specs.Owed.{roomTaken}
 use Rattle.rules.specs.State.{State, withHandles, withInboxes}
-use Rattle.copies.specs.Kinds.{getsCopies}
 
 pub copy-lost : (e : Entry) (s : State) (h : ℕ) (hs : List Handle) → roomTaken s h ≡ 16 → hs ≡ set (s .handles) h (loses (handleAt s h)) → withHandles s hs ≡ copyTo e s h
 unfolding copyTo

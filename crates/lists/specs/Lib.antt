@@ -6,3 +6,4 @@ pub mod Vector
 pub mod Blocks
 pub mod Order
 pub mod Pigeonhole
+pub mod Below

@@ -1,20 +1,15 @@
 -- `copies::copies` meets its contract. Assumes nothing.
-use Prim.Native.Nat.{ℕ}
-use mathlib.Core.Path.{ap}
-use Rattle.rules.specs.State.{State}
-use Prim.Native.Nat.{_≤_, _-_}
-use mathlib.Core.Path.{_≡_, refl, sym, _∙_}
+use Prim.Native.Nat.{ℕ, _≤_, _-_}
+use mathlib.Core.Path.{ap, _≡_, refl, sym, _∙_}
 use native.Mathlib.Omega.{arith}
 use lib.ListN.{take}
+use borrow.Author.Needs.{needs}
 use Rattle.parts.specs.Parts.{stateOf}
 use Rattle.rules.specs.Deliver.{each, handleNumbers, copies}
+use Rattle.rules.specs.State.{State}
 use Rattle.copies.proofs.Turns.{copyIf, each-next}
-use borrow.Author.Needs.{needs}
 use Rattle.copies.proofs.copies.Statement.{statement}
 use Rattle.copies.proofs.copies.Tie as tie
-use Rattle.copies.proofs.copies.Reads as reads
-use Rattle.copies.proofs.copies.Lts as lts
-use Rattle.copies.proofs.copy_if.Reads as copy-if-reads
 
 abbrev Inv-loop : tie.InvT-loop
 Inv-loop kind entry after₀ handle₀ after handle = (handle ≤ 8) × (stateOf after ≡ each (copyIf kind entry) (stateOf after₀) (take handle handleNumbers))
@@ -37,11 +32,12 @@ loop-less c = search needs
 loop-again : tie.Need-loop-again Inv-loop μ-loop
 loop-again c =
     let l = c .before .before .loop in
-    let a = c .before .before .before .args in
-    (omega arith,
+    let a = c .before .before .before .args in (
+      omega arith,
       c .copy-if .ensures
-      ∙ ap (λ (t : State). copyIf (a .kind) (a .entry) t (l .handle)) (l .inv .1)
-      ∙ sym (each-next (copyIf (a .kind) (a .entry)) (stateOf (a .parts)) (l .handle) (omega arith)))
+          ∙ ap (λ (t : State). copyIf (a .kind) (a .entry) t (l .handle)) (l .inv .1)
+          ∙ sym (each-next (copyIf (a .kind) (a .entry)) (stateOf (a .parts)) (l .handle) (omega arith)),
+    )
 
 returns : tie.Need-returns Inv-loop μ-loop
 unfolding copies

@@ -2,11 +2,6 @@
 use borrow.Author.Needs.{needs}
 use Rattle.copies.proofs.copy_if.Statement.{statement}
 use Rattle.copies.proofs.copy_if.Tie as tie
-use Rattle.copies.proofs.copy_if.Reads as reads
-use Rattle.copies.proofs.copy_if.Lts as lts
-use Rattle.copies.proofs.copy_to.Reads as copy-to-reads
-use Rattle.copies.proofs.gets_copies.Reads as gets-copies-reads
-use Rattle.parts.proofs.Parts.handle_at.Reads as handle-at-reads
 
 handle-at-requires : tie.Need-handle-at-requires
 handle-at-requires c κs = search needs

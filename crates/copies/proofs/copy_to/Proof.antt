@@ -1,17 +1,10 @@
 -- `copies::copy_to` meets its contract. Assumes nothing.
 use mathlib.Core.Path.{sym, _∙_}
+use borrow.Author.Needs.{needs}
 use Rattle.parts.specs.Parts.{stateOf}
 use Rattle.copies.proofs.Turns.{copy-lost, copy-kept}
-use borrow.Author.Needs.{needs}
 use Rattle.copies.proofs.copy_to.Statement.{statement}
 use Rattle.copies.proofs.copy_to.Tie as tie
-use Rattle.copies.proofs.copy_to.Reads as reads
-use Rattle.copies.proofs.copy_to.Lts as lts
-use Rattle.copies.proofs.raised.Reads as raised-reads
-use Rattle.handles.proofs.Handles.with.Reads as with-reads
-use Rattle.inbox.proofs.Inboxes.put.Reads as put-reads
-use Rattle.parts.proofs.Parts.handle_at.Reads as handle-at-reads
-use Rattle.parts.proofs.Parts.room_taken.Reads as room-taken-reads
 
 room-taken-requires : tie.Need-room-taken-requires
 room-taken-requires c κs = search needs

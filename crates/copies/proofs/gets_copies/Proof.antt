@@ -1,13 +1,8 @@
 -- `copies::gets_copies` meets its contract. Assumes nothing.
-use borrow.Author.Tests.{eq-eqb, ne-eqb}
 use borrow.Author.Needs.{needs}
+use borrow.Author.Tests.{eq-eqb, ne-eqb}
 use Rattle.copies.proofs.gets_copies.Statement.{statement}
 use Rattle.copies.proofs.gets_copies.Tie as tie
-use Rattle.copies.proofs.gets_copies.Reads as reads
-use Rattle.copies.proofs.gets_copies.Lts as lts
-use Rattle.handles.proofs.mode.follower_part.Reads as follower-part-reads
-use Rattle.handles.proofs.mode.is_exclusive_follower.Reads as is-exclusive-follower-reads
-use Rattle.handles.proofs.mode.is_monitor.Reads as is-monitor-reads
 
 is-monitor-requires : tie.Need-is-monitor-requires
 is-monitor-requires c κs = search needs

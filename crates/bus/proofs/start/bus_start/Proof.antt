@@ -1,13 +1,11 @@
 -- `bus::start::bus_start` meets its contract. Assumes nothing.
+use mathlib.Core.Path.{refl}
 use borrow.Author.Needs.{needs}
+use Rattle.parts.proofs.Outcomes.{refused-outcome, done-outcome}
+use Rattle.parts.specs.Parts.{stateOf}
+use Rattle.rules.specs.BusStart.{doBusStart}
 use Rattle.bus.proofs.start.bus_start.Statement.{statement}
 use Rattle.bus.proofs.start.bus_start.Tie as tie
-use Rattle.bus.proofs.start.bus_start.Reads as reads
-use Rattle.bus.proofs.start.bus_start.Lts as lts
-use Rattle.bus.proofs.start.bus_start_errno.Reads as bus-start-errno-reads
-use Rattle.message.proofs.Message.new.Reads as new-reads
-use Rattle.queue.proofs.Queue.take.Reads as take-reads
-use Rattle.wire.proofs.Wire.put.Reads as put-reads
 
 bus-start-errno-requires : tie.Need-bus-start-errno-requires
 bus-start-errno-requires c κs = search needs
@@ -16,7 +14,8 @@ new-requires : tie.Need-new-requires
 new-requires c κs = search needs
 
 returns : tie.Need-returns
-returns c = ?
+unfolding doBusStart
+returns c = (refused-outcome (stateOf (c .before .before .before .args .parts)) _ _ _ _ (c .before .before .bus-start-errno .ensures) (c .before .if1 .taken), λ _. refl)
 
 take-requires : tie.Need-take-requires
 take-requires c κs = search needs
@@ -25,7 +24,8 @@ put-requires : tie.Need-put-requires
 put-requires c κs = search needs
 
 returns-2 : tie.Need-returns-2
-returns-2 c = ?
+unfolding doBusStart
+returns-2 c = (rw (c .before .put .ensures, c .before .before .before .before .before .take .ensures .0, c .before .before .before .before .before .take .ensures .1) (done-outcome (stateOf (c .before .before .before .before .before .before .before .before .args .parts)) _ _ _ (c .before .before .before .before .before .before .before .bus-start-errno .ensures) (c .before .before .before .before .before .before .if1 .left)), λ z. absurd (z refl))
 
 pub bus-start-spec : {M : Type 1} → statement M
 bus-start-spec =

@@ -2,11 +2,6 @@
 use borrow.Author.Needs.{needs}
 use Rattle.bus.proofs.start.bus_start_errno.Statement.{statement}
 use Rattle.bus.proofs.start.bus_start_errno.Tie as tie
-use Rattle.bus.proofs.start.bus_start_errno.Reads as reads
-use Rattle.bus.proofs.start.bus_start_errno.Lts as lts
-use Rattle.parts.proofs.check.Reads as check-reads
-use Rattle.queue.proofs.Queue.count.Reads as Queue-count-reads
-use Rattle.wire.proofs.Wire.count.Reads as Wire-count-reads
 
 count-requires : tie.Need-count-requires
 count-requires c κs = search needs
@@ -21,7 +16,7 @@ check-requires-2 : tie.Need-check-requires-2
 check-requires-2 c κs = search needs
 
 returns : tie.Need-returns
-returns c = ?
+returns c = rw (c .check2 .ensures, c .before .check .ensures, c .before .before .count2 .ensures .0, c .before .before .before .count .ensures .0)
 
 pub bus-start-errno-spec : {M : Type 1} → statement M
 bus-start-errno-spec =
