@@ -1,0 +1,152 @@
+// The adapter and its calls, each exactly its rule. A refused call hands back the adapter that came in.
+ghost use mathlib.Core.Logic.{_≢_};
+ghost use mathlib.Core.Path.{_≡_};
+ghost use Rattle.adapter.specs.Adapter.{stateOf, doneOf, openedOf, transmittedOf, receivedOf, startedOf};
+ghost use Rattle.rules.specs.Call.{callOpen, callClose, callMode, callTransmit, callReceive, callBusStart, callBusResult};
+ghost use Rattle.rules.specs.State.{fresh};
+ghost use Rattle.rules.specs.Step.{step};
+ghost use Rattle.transmit.specs.Request.{requestOf};
+use entry::Counts;
+use entry::Entry;
+use message::Message;
+use parts::Parts;
+use transmit::request::Request;
+
+#[repr(C)]
+pub struct Adapter {
+    parts: Parts,
+}
+
+// The answers: the adapter after the call, the errno, 0 for success, and what the call gives.
+#[repr(C)]
+pub struct Done {
+    pub adapter: Adapter,
+    pub errno: u32,
+}
+
+#[repr(C)]
+pub struct Opened {
+    pub adapter: Adapter,
+    pub errno: u32,
+    pub handle: u8,
+}
+
+#[repr(C)]
+pub struct Transmitted {
+    pub adapter: Adapter,
+    pub errno: u32,
+    pub number: u32,
+    pub tx_status: u8,
+}
+
+#[repr(C)]
+pub struct Received {
+    pub adapter: Adapter,
+    pub errno: u32,
+    pub entry: Entry,
+}
+
+#[repr(C)]
+pub struct Started {
+    pub adapter: Adapter,
+    pub errno: u32,
+    pub message: Message,
+}
+
+// The answer of a call that gives nothing more.
+fn of_done(answer: parts::Done) -> Done
+    ensures { λ r. ⌜ r ≡ record { adapter = record { parts = answer .parts }; errno = answer .errno } ⌝ }
+{
+    let parts = answer.parts;
+    Done {
+        adapter: Adapter { parts: parts },
+        errno: answer.errno,
+    }
+}
+
+impl Adapter {
+    // A fresh adapter, for any capabilities.
+    pub fn fresh(can_transmit: bool, can_monitor_all: bool) -> Adapter
+        ensures { λ r. ⌜ stateOf r ≡ fresh (record { transmit = «can_transmit»; monitorAll = «can_monitor_all» }) ⌝ }
+    {
+        Adapter {
+            parts: Parts::fresh(can_transmit, can_monitor_all),
+        }
+    }
+
+    pub fn open(self, privileged: bool) -> Opened
+        ensures { λ r. ⌜ openedOf r ≡ step (stateOf self) (callOpen privileged) ⌝ }
+        ensures { λ r. ⌜ (r .errno ≢ 0 → r .adapter ≡ self) ⌝ }
+    {
+        let answer = programs::open::open(self.parts, privileged);
+        let parts = answer.parts;
+        Opened {
+            adapter: Adapter { parts: parts },
+            errno: answer.errno,
+            handle: answer.handle,
+        }
+    }
+
+    pub fn close(self, handle: u8) -> Done
+        ensures { λ r. ⌜ doneOf r ≡ step (stateOf self) (callClose handle) ⌝ }
+        ensures { λ r. ⌜ (r .errno ≢ 0 → r .adapter ≡ self) ⌝ }
+    {
+        of_done(programs::close::close(self.parts, handle))
+    }
+
+    pub fn mode(self, handle: u8, mode: u32) -> Done
+        ensures { λ r. ⌜ doneOf r ≡ step (stateOf self) (callMode handle mode) ⌝ }
+        ensures { λ r. ⌜ (r .errno ≢ 0 → r .adapter ≡ self) ⌝ }
+    {
+        of_done(programs::mode::mode(self.parts, handle, mode))
+    }
+
+    pub fn transmit(self, handle: u8, request: Request) -> Transmitted
+        ensures { λ r. ⌜ transmittedOf r ≡ step (stateOf self) (callTransmit handle (requestOf request)) ⌝ }
+        ensures { λ r. ⌜ (r .errno ≢ 0 → r .adapter ≡ self) ⌝ }
+    {
+        let answer = transmit::transmit(self.parts, handle, request);
+        let parts = answer.parts;
+        Transmitted {
+            adapter: Adapter { parts: parts },
+            errno: answer.errno,
+            number: answer.number,
+            tx_status: answer.tx_status,
+        }
+    }
+
+    pub fn receive(self, handle: u8) -> Received
+        ensures { λ r. ⌜ receivedOf r ≡ step (stateOf self) (callReceive handle) ⌝ }
+        ensures { λ r. ⌜ (r .errno ≢ 0 → r .adapter ≡ self) ⌝ }
+    {
+        let answer = programs::receive::receive(self.parts, handle);
+        let parts = answer.parts;
+        let entry = answer.entry;
+        Received {
+            adapter: Adapter { parts: parts },
+            errno: answer.errno,
+            entry: entry,
+        }
+    }
+
+    pub fn bus_start(self) -> Started
+        ensures { λ r. ⌜ startedOf r ≡ step (stateOf self) callBusStart ⌝ }
+        ensures { λ r. ⌜ (r .errno ≢ 0 → r .adapter ≡ self) ⌝ }
+    {
+        let answer = bus::start::bus_start(self.parts);
+        let parts = answer.parts;
+        let message = answer.message;
+        Started {
+            adapter: Adapter { parts: parts },
+            errno: answer.errno,
+            message: message,
+        }
+    }
+
+    pub fn bus_result(self, status: u8, counts: Counts) -> Done
+        ensures { λ r. ⌜ doneOf r ≡ step (stateOf self) (callBusResult status counts) ⌝ }
+        ensures { λ r. ⌜ (r .errno ≢ 0 → r .adapter ≡ self) ⌝ }
+    {
+        of_done(bus::result::bus_result(self.parts, status, counts))
+    }
+}
