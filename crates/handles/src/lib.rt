@@ -23,7 +23,8 @@ pub struct Roles {
     pub follower: bool,
 }
 
-fn closed() -> Handle
+// A closed handle.
+pub fn closed() -> Handle
     ensures { λ r. ⌜ r ≡ closedHandle ⌝ }
 {
     Handle {

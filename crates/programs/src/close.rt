@@ -4,7 +4,7 @@ ghost use mathlib.Core.Path.{_≡_};
 ghost use Rattle.parts.specs.Parts.{stateOf, doneOf};
 ghost use Rattle.rules.specs.Close.{doClose, closeRefusal};
 use constants::EBADF;
-use handle::Handle;
+use handles::closed;
 use parts::Done;
 use parts::Parts;
 use parts::check;
@@ -26,14 +26,8 @@ pub fn close(parts: Parts, handle: u8) -> Done
             errno: errno,
         };
     }
-    let closed = Handle {
-        is_open: false,
-        privileged: false,
-        mode: 0,
-        lost: 0,
-    };
     let mut after = parts;
-    after.handles = parts.handles.with(handle, closed);
+    after.handles = parts.handles.with(handle, closed());
     after.inboxes = parts.inboxes.clear(handle);
     after.traffic = parts.traffic.without_handle(handle);
     Done {

@@ -15,6 +15,9 @@ returns : tie.Need-returns
 unfolding doClose
 returns c = (refused-outcome (stateOf (c .before .before .args .parts)) _ _ _ _ (c .before .close-errno .ensures) (c .if1 .taken), λ _. refl)
 
+closed-requires : tie.Need-closed-requires
+closed-requires c κs = search needs
+
 with-requires : tie.Need-with-requires
 with-requires c κs = search needs
 
@@ -26,7 +29,7 @@ without-handle-requires c κs = search needs
 
 returns-2 : tie.Need-returns-2
 unfolding doClose
-returns-2 c = (rw (c .without-handle .ensures .0, c .without-handle .ensures .1, c .without-handle .ensures .2, c .before .clear .ensures, c .before .before .with .ensures) (done-outcome (stateOf (c .before .before .before .before .before .args .parts)) _ _ _ (c .before .before .before .before .close-errno .ensures) (c .before .before .before .if1 .left)), λ z. absurd (z refl))
+returns-2 c = (rw (c .without-handle .ensures .0, c .without-handle .ensures .1, c .without-handle .ensures .2, c .before .clear .ensures, c .before .before .with .ensures, c .before .before .before .closed .ensures) (done-outcome (stateOf (c .before .before .before .before .before .before .args .parts)) _ _ _ (c .before .before .before .before .before .close-errno .ensures) (c .before .before .before .before .if1 .left)), λ z. absurd (z refl))
 
 pub close-spec : {M : Type 1} → statement M
 close-spec =
@@ -34,6 +37,7 @@ close-spec =
     (tie.spec
     close-errno-requires
     returns
+    closed-requires
     with-requires
     clear-requires
     without-handle-requires
