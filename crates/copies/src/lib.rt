@@ -1,14 +1,14 @@
 // Copies for monitors and followers.
 ghost use Prim.Native.Nat.{_+_, min};
-ghost use mathlib.Core.Bool.{cond};
 ghost use mathlib.Core.Path.{_≡_};
 ghost use Rattle.copies.specs.Kinds.{getsCopies};
 ghost use Rattle.parts.specs.Parts.{stateOf};
 ghost use Rattle.rules.specs.Deliver.{copyTo, copies};
-ghost use Rattle.rules.specs.Handles.{handleAt, inRole};
+ghost use Rattle.rules.specs.Handles.{inRole};
 use constants::CEC_MODE_FOLLOWER;
 use constants::CEC_MODE_MONITOR_ALL;
 use entry::Entry;
+use handle::Handle;
 use handles::mode::follower_part;
 use handles::mode::is_exclusive_follower;
 use handles::mode::is_monitor;
@@ -64,14 +64,10 @@ pub fn copy_to(parts: Parts, entry: Entry, handle: u8) -> Parts
     after
 }
 
-fn copy_if(parts: Parts, kind: u8, entry: Entry, handle: u8) -> Parts
-    ensures { λ r. ⌜ stateOf r ≡ cond (inRole (getsCopies kind) (handleAt (stateOf parts) handle)) (copyTo entry (stateOf parts) handle) (stateOf parts) ⌝ }
+fn is_copied(kind: u8, handle: Handle) -> bool
+    ensures { λ r. ⌜ r ≡ inRole (getsCopies kind) handle ⌝ }
 {
-    let x = parts.handle_at(handle);
-    if x.is_open & gets_copies(kind, x.mode) {
-        return copy_to(parts, entry, handle);
-    }
-    parts
+    handle.is_open & gets_copies(kind, handle.mode)
 }
 
 // Copies for all handles of a kind, ascending.
@@ -81,7 +77,9 @@ pub fn copies(parts: Parts, kind: u8, entry: Entry) -> Parts
     let mut after = parts;
     let mut handle = 0;
     while handle < 8 {
-        after = copy_if(after, kind, entry, handle);
+        if is_copied(kind, after.handle_at(handle)) {
+            after = copy_to(after, entry, handle);
+        }
         handle += 1;
     }
     after

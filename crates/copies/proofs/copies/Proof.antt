@@ -1,5 +1,6 @@
 -- `copies::copies` meets its contract. Assumes nothing.
 use Prim.Native.Nat.{ℕ, _≤_, _-_}
+use mathlib.Core.Logic.{⊎-elim}
 use mathlib.Core.Path.{ap, _≡_, refl, sym, _∙_}
 use native.Mathlib.Omega.{arith}
 use lib.ListN.{take}
@@ -20,8 +21,14 @@ abbrev μ-loop : tie.MeasureT-loop
 loop-holds : tie.Need-loop-holds Inv-loop μ-loop
 loop-holds c = (omega arith, refl)
 
-copy-if-requires : tie.Need-copy-if-requires Inv-loop μ-loop
-copy-if-requires c κs = search needs
+handle-at-requires : tie.Need-handle-at-requires Inv-loop μ-loop
+handle-at-requires c κs = search needs
+
+is-copied-requires : tie.Need-is-copied-requires Inv-loop μ-loop
+is-copied-requires c κs = search needs
+
+copy-to-requires : tie.Need-copy-to-requires Inv-loop μ-loop
+copy-to-requires c κs = search needs
 
 add-handle : tie.Need-add-handle Inv-loop μ-loop
 add-handle c = search needs
@@ -31,10 +38,14 @@ loop-less c = search needs
 
 loop-again : tie.Need-loop-again Inv-loop μ-loop
 loop-again c =
-    let l = c .before .before .loop in
-    let a = c .before .before .before .args in (
+    let l = c .before .before .before .before .loop in
+    let a = c .before .before .before .before .before .args in
+    let g = c .before .is-copied .ensures in
+    let h = c .before .before .handle-at .ensures in
+    let turn : stateOf (c .if1 .after) ≡ copyIf (a .kind) (a .entry) (stateOf (l .after)) (l .handle)
+    = ⊎-elim (λ w. rw (w .2, rw (g, h) at (w .0 .taken)) (w .1 .ensures)) (λ w. rw (w .1, rw (g, h) at (w .0 .left))) (c .if1 .came) in (
       omega arith,
-      c .copy-if .ensures
+      turn
           ∙ ap (λ (t : State). copyIf (a .kind) (a .entry) t (l .handle)) (l .inv .1)
           ∙ sym (each-next (copyIf (a .kind) (a .entry)) (stateOf (a .parts)) (l .handle) (omega arith)),
     )
@@ -50,4 +61,14 @@ returns c =
 pub copies-spec : {M : Type 1} → statement M
 copies-spec =
     tie.close
-    (tie.spec Inv-loop μ-loop loop-holds copy-if-requires add-handle loop-less loop-again returns)
+    (tie.spec
+    Inv-loop
+    μ-loop
+    loop-holds
+    handle-at-requires
+    is-copied-requires
+    copy-to-requires
+    add-handle
+    loop-less
+    loop-again
+    returns)
