@@ -1,6 +1,6 @@
 // A CEC message by value, and the reply test on messages and on byte slices.
 ghost use mathlib.Core.Path.{_≡_};
-ghost use Prim.Native.Nat.{min};
+ghost use Prim.Native.Nat.{_≤_, _/_, min};
 ghost use lib.ListN.{getD, length};
 ghost use Rattle.message.specs.Message.{message, contents, initiator, destination, opcode};
 
@@ -17,6 +17,13 @@ fn at_most_16(length: u8) -> u8
     ensures { λ r. ⌜ r ≡ min length 16 ⌝ }
 {
     if length < 16 { length } else { 16 }
+}
+
+fn high_digit(byte: u8) -> u8
+    ensures { λ r. ⌜ r ≡ byte / 16 ⌝ }
+    ensures { λ r. ⌜ r ≤ 15 ⌝ }
+{
+    byte / 16
 }
 
 impl Message {
@@ -51,12 +58,14 @@ impl Message {
 
     pub fn initiator(self) -> u8
         ensures { λ r. ⌜ r ≡ initiator (self .bytes) ⌝ }
+        ensures { λ r. ⌜ r ≤ 15 ⌝ }
     {
-        self.bytes[0] / 16
+        high_digit(self.bytes[0])
     }
 
     pub fn destination(self) -> u8
         ensures { λ r. ⌜ r ≡ destination (self .bytes) ⌝ }
+        ensures { λ r. ⌜ r ≤ 15 ⌝ }
     {
         self.bytes[0] % 16
     }

@@ -10,7 +10,7 @@ destination-requires : tie.Need-destination-requires
 destination-requires c κs = search needs
 
 returns : tie.Need-returns
-returns c = rw (c .destination .ensures, c .before .message .ensures)
+returns c = rw (c .destination .ensures .0, c .before .message .ensures)
 
 pub destination-spec : {M : Type 1} → statement M
 destination-spec = tie.close (tie.spec message-requires destination-requires returns)

@@ -10,7 +10,7 @@ initiator-requires : tie.Need-initiator-requires
 initiator-requires c κs = search needs
 
 returns : tie.Need-returns
-returns c = rw (c .initiator .ensures, c .before .message .ensures)
+returns c = rw (c .initiator .ensures .0, c .before .message .ensures)
 
 pub initiator-spec : {M : Type 1} → statement M
 initiator-spec = tie.close (tie.spec message-requires initiator-requires returns)

@@ -1,0 +1,3 @@
+pub mod Opcodes
+pub mod Names
+pub mod Lengths
