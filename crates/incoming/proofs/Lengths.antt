@@ -1,0 +1,13 @@
+-- There are 15 noted addresses.
+-- Assumes nothing.
+use mathlib.Core.List.{List}
+use mathlib.Core.Path.{_≡_}
+use lib.ListN.{length}
+use mir.Val.{Val}
+use denote.Laws.{Is}
+use Rattle.lists.specs.Elements.{unmapped}
+use Rattle.parts.proofs.Parts as the
+use Rattle.parts.specs.declared.Parts.{Parts}
+
+pub noted-long : (x : Parts) (vs : List Val) → Is the.the-row x vs → length (x .noted) ≡ 15
+noted-long x vs p = unmapped _ (x .noted) 15 (p .1 .1 .1 .1 .1 .1 .1 .1 .1 .0 .1 .0 .1)

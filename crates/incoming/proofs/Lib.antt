@@ -1,0 +1,4 @@
+pub mod Alike
+pub mod Copied
+pub mod Turns
+pub mod Lengths

@@ -1,0 +1,67 @@
+-- `incoming::heard` meets its contract. Assumes nothing.
+use borrow.Author.Needs.{needs}
+use Rattle.incoming.proofs.heard.Statement.{statement}
+use Rattle.incoming.proofs.heard.Tie as tie
+use mathlib.Core.Path.{_≡_, ap, _∙_}
+use Rattle.entry.specs.Entry.{messageCopy}
+use Rattle.incoming.proofs.Copied.{monitors-same}
+use Rattle.incoming.proofs.Turns.{heard-on, heard-stopped}
+use Rattle.parts.specs.Parts.{stateOf}
+use Rattle.rules.specs.Deliver.{copies}
+use Rattle.rules.specs.Handles.{inRole, isHere}
+use Rattle.rules.specs.Incoming.{monitors}
+
+destination-requires : tie.Need-destination-requires
+destination-requires c κs = search needs
+
+is-here-requires : tie.Need-is-here-requires
+is-here-requires c κs = search needs
+
+is-configured-requires : tie.Need-is-configured-requires
+is-configured-requires c κs = search needs
+
+length-requires : tie.Need-length-requires
+length-requires c κs = search needs
+
+monitor-kind-requires : tie.Need-monitor-kind-requires
+monitor-kind-requires c κs = search needs
+
+message-copy-requires : tie.Need-message-copy-requires
+message-copy-requires c κs = search needs
+
+copies-requires : tie.Need-copies-requires
+copies-requires c κs = search needs
+
+returns : tie.Need-returns
+returns c =
+    let s = stateOf (c .before .before .before .before .before .before .before .before .args .parts) in
+    let m = c .before .before .before .before .before .before .before .before .args .message in
+    let here = c .before .before .before .before .before .before .is-here .ensures ∙ ap (isHere s) (c .before .before .before .before .before .before .before .destination .ensures .0) in
+    let copied : stateOf (c .before .copies .result) ≡ copies (inRole (monitors s m)) (messageCopy m) s = c .before .copies .ensures ∙ rw (c .before .before .before .monitor-kind .ensures, c .before .before .message-copy .ensures) (monitors-same s m (c .before .before .before .before .before .before .is-here .result) (messageCopy m) here) in
+    heard-stopped s m _ copied (rw (c .before .before .before .before .before .is-configured .ensures, c .before .before .before .before .length .ensures, here) at (c .if1 .taken))
+
+handled-requires : tie.Need-handled-requires
+handled-requires c κs = search needs
+
+returns-2 : tie.Need-returns-2
+returns-2 c =
+    let s = stateOf (c .before .before .before .before .before .before .before .before .before .args .parts) in
+    let m = c .before .before .before .before .before .before .before .before .before .args .message in
+    let here = c .before .before .before .before .before .before .before .is-here .ensures ∙ ap (isHere s) (c .before .before .before .before .before .before .before .before .destination .ensures .0) in
+    let copied : stateOf (c .before .before .copies .result) ≡ copies (inRole (monitors s m)) (messageCopy m) s = c .before .before .copies .ensures ∙ rw (c .before .before .before .before .monitor-kind .ensures, c .before .before .before .message-copy .ensures) (monitors-same s m (c .before .before .before .before .before .before .before .is-here .result) (messageCopy m) here) in
+    heard-on s m _ _ copied (rw (c .before .before .before .before .before .before .is-configured .ensures, c .before .before .before .before .before .length .ensures, here) at (c .before .if1 .left)) (c .handled .ensures)
+
+pub heard-spec : {M : Type 1} → statement M
+heard-spec =
+    tie.close
+    (tie.spec
+    destination-requires
+    is-here-requires
+    is-configured-requires
+    length-requires
+    monitor-kind-requires
+    message-copy-requires
+    copies-requires
+    returns
+    handled-requires
+    returns-2)

@@ -1,0 +1,26 @@
+-- `incoming::steps::reply_entry` meets its contract. Assumes nothing.
+use borrow.Author.Needs.{needs}
+use Rattle.incoming.proofs.steps.reply_entry.Statement.{statement}
+use Rattle.incoming.proofs.steps.reply_entry.Tie as tie
+use mathlib.Core.Path.{sym, _∙_}
+use borrow.Author.Tests.{ne-eqb}
+
+opcode-requires : tie.Need-opcode-requires
+opcode-requires c κs = search needs
+
+feature-abort-reply-requires : tie.Need-feature-abort-reply-requires
+feature-abort-reply-requires c κs = search needs
+
+reply-requires : tie.Need-reply-requires
+reply-requires c κs = search needs
+
+returns : tie.Need-returns
+returns c = rw (sym (c .before .before .opcode .ensures) ∙ c .before .if1 .taken) (c .feature-abort-reply .ensures)
+
+returns-2 : tie.Need-returns-2
+returns-2 c = rw (← c .before .before .opcode .ensures, ne-eqb _ _ (c .before .if1 .left)) (c .reply .ensures)
+
+pub reply-entry-spec : {M : Type 1} → statement M
+reply-entry-spec =
+    tie.close
+    (tie.spec opcode-requires feature-abort-reply-requires reply-requires returns returns-2)

@@ -1,0 +1,150 @@
+// The steps of a message from the wire, and which of them are to be done.
+ghost use Prim.Native.Nat.{_+_, _*_};
+ghost use mathlib.Core.Bool.{cond};
+ghost use mathlib.Core.Path.{_≡_};
+ghost use Rattle.constants.specs.Kernel.{CEC-OP-ABORT-UNRECOGNIZED-OP};
+ghost use Rattle.core.specs.Work.{messageOf, abortOf};
+ghost use Rattle.handles.specs.Roles.{handlesOf};
+ghost use Rattle.incoming.specs.Steps.{chosenOf, putInto, notedIn};
+ghost use Rattle.parts.specs.Parts.{stateOf};
+ghost use Rattle.rules.specs.Core.{isDirected, isRegistered};
+ghost use Rattle.rules.specs.Incoming.{replyEntry, replied};
+ghost use Rattle.waits.specs.Waits.{takenOf};
+use constants::CEC_LOG_ADDR_BROADCAST;
+use constants::CEC_LOG_ADDR_UNREGISTERED;
+use constants::CEC_MSG_FEATURE_ABORT;
+use constants::CEC_OP_ABORT_UNRECOGNIZED_OP;
+use core::Work;
+use entry::Entry;
+use handles::Handles;
+use message::Message;
+use parts::Parts;
+use transmission::Transmission;
+use waits::Ended;
+
+// What is to be done with a message after step 3.
+pub struct Chosen {
+    pub notes: bool,
+    pub answers: bool,
+    pub copies: bool,
+    pub exclusive: bool,
+    pub aborts: bool,
+}
+
+fn is_directed(message: Message) -> bool
+    ensures { λ r. ⌜ r ≡ isDirected message ⌝ }
+{
+    message.destination() != CEC_LOG_ADDR_BROADCAST
+}
+
+fn is_registered(message: Message) -> bool
+    ensures { λ r. ⌜ r ≡ isRegistered message ⌝ }
+{
+    message.initiator() != CEC_LOG_ADDR_UNREGISTERED
+}
+
+// From the handles, the core's work, whether the message is a reply and whether its flag was set.
+pub fn choose(
+    handles: Handles,
+    work: Work,
+    found: bool,
+    to_followers: bool,
+    message: Message,
+) -> Chosen
+    ensures { λ r. ⌜ r ≡ chosenOf (handlesOf handles) work found «to_followers» message ⌝ }
+{
+    let roles = handles.roles(8);
+    let directed = is_directed(message);
+    let registered = is_registered(message);
+    let answers = directed & registered & !roles.passthrough & work.is_question;
+    let notes = work.is_report & (5 <= message.length()) & registered;
+    Chosen {
+        notes: notes,
+        answers: answers,
+        copies: !answers & (!found | to_followers),
+        exclusive: roles.exclusive_follower,
+        aborts: !found
+            & !roles.follower
+            & !(answers | notes)
+            & directed
+            & registered
+            & (message.opcode() != CEC_MSG_FEATURE_ABORT),
+    }
+}
+
+fn reply_entry(number: u32, message: Message) -> Entry
+    ensures { λ r. ⌜ r ≡ replyEntry number message ⌝ }
+{
+    if message.opcode() == CEC_MSG_FEATURE_ABORT {
+        Entry::feature_abort_reply(number, message)
+    } else {
+        Entry::reply(number, message)
+    }
+}
+
+// The wait that the message ends gets it as its reply.
+pub fn replied(parts: Parts, ended: Ended, message: Message) -> Parts
+    ensures { λ r. ⌜ stateOf r ≡ replied (stateOf parts) (takenOf ended) message ⌝ }
+{
+    if ended.found {
+        let wait = ended.wait;
+        let waits = ended.waits;
+        let mut traffic = parts.traffic;
+        traffic.waits = waits;
+        let mut after = parts;
+        after.traffic = traffic;
+        after.inboxes = parts
+            .inboxes
+            .put(wait.owner, reply_entry(wait.number, message));
+        return after;
+    }
+    parts
+}
+
+// Two bytes as a number, the high one first.
+fn joined(high: u8, low: u8) -> u16
+    ensures { λ r. ⌜ r ≡ high * 256 + low ⌝ }
+{
+    high as u16 * 256 + low as u16
+}
+
+// The address that an initiator reports.
+pub fn noted(parts: Parts, message: Message) -> Parts
+    ensures { λ r. ⌜ stateOf r ≡ notedIn (stateOf parts) message ⌝ }
+{
+    let from = message.initiator() as usize;
+    if 15 <= from {
+        return parts;
+    }
+    let bytes = message.bytes();
+    let mut after = parts;
+    after.noted[from] = joined(bytes[2], bytes[3]);
+    after
+}
+
+// What the core sends, without owner and number.
+pub fn sent(parts: Parts, message: Message) -> Parts
+    ensures { λ r. ⌜ stateOf r ≡ putInto (stateOf parts) message ⌝ }
+{
+    if parts.can_transmit {
+        let mut traffic = parts.traffic;
+        traffic.queue = traffic.queue.put(Transmission::ownerless(message));
+        let mut after = parts;
+        after.traffic = traffic;
+        return after;
+    }
+    parts
+}
+
+// Feature Abort to the initiator, where nobody took the message.
+pub fn aborted(parts: Parts, aborts: bool, message: Message) -> Parts
+    ensures { λ r. ⌜ stateOf r ≡ cond aborts (putInto (stateOf parts) (messageOf (abortOf message CEC-OP-ABORT-UNRECOGNIZED-OP))) (stateOf parts) ⌝ }
+{
+    if aborts {
+        return sent(
+            parts,
+            core::feature_abort(message, CEC_OP_ABORT_UNRECOGNIZED_OP),
+        );
+    }
+    parts
+}
