@@ -1,7 +1,7 @@
 -- What the core has to say, by the opcode alone.
 -- Assumes nothing.
 use Prim.Native.Nat.{ℕ}
-use mathlib.Core.Bool.{true, false}
+use mathlib.Core.Bool.{false}
 use mathlib.Core.Path.{_≡_}
 use borrow.Author.Tests.{ne-eqb}
 use Rattle.constants.specs.Kernel.{CEC-MSG-GET-CEC-VERSION, CEC-MSG-GIVE-DEVICE-VENDOR-ID, CEC-MSG-GIVE-PHYSICAL-ADDR, CEC-MSG-GIVE-OSD-NAME, CEC-MSG-ABORT, CEC-MSG-REPORT-PHYSICAL-ADDR, CEC-OP-ABORT-REFUSED}
@@ -9,7 +9,6 @@ use Rattle.core.specs.Work.{messageOf, abortOf, workOf}
 use Rattle.core.specs.declared.Work.{Work}
 use Rattle.message.specs.Message.{opcode}
 use Rattle.message.specs.declared.Message.{Message}
-use Rattle.rules.specs.Core.{coreAnswer}
 use Rattle.settings.specs.declared.Settings.{Settings}
 
 -- an opcode that is none of the core's

@@ -19,7 +19,6 @@ use Rattle.rules.specs.Handles.{handleAt, inRole, someone}
 use Rattle.rules.specs.Incoming.{followed, follows, isCopied, replied}
 use Rattle.rules.specs.Owed.{roomTaken}
 use Rattle.rules.specs.State.{State, closedHandle}
-use Rattle.settings.specs.declared.Settings.{Settings}
 use Rattle.waits.specs.Waits.{Taken}
 
 -- the same roles are held, and the settings are the same

@@ -1,10 +1,11 @@
 -- Copies leave the waits, and go to the same handles where the tests agree.
 -- Assumes nothing.
 use Prim.Native.Nat.{ℕ}
-use mathlib.Core.Bool.{Bool, true, false, cond, _||_, _&&_}
+use mathlib.Core.Bool.{Bool, cond, _&&_}
 use mathlib.Core.List.{List, [], _∷_}
 use mathlib.Core.Path.{_≡_, refl, sym, ap, _∙_}
 use lib.Dec.{eqb}
+use Rattle.constants.specs.Kernel.{CEC-MODE-MONITOR-ALL}
 use Rattle.copies.specs.Kinds.{getsCopies}
 use Rattle.entry.specs.declared.Entry.{Entry}
 use Rattle.handle.specs.declared.Handle.{Handle}
@@ -17,8 +18,6 @@ use Rattle.rules.specs.Handles.{handleAt, followerPart, inRole, isExclusiveFoll
 use Rattle.rules.specs.Incoming.{follows, monitors}
 use Rattle.rules.specs.Owed.{roomTaken}
 use Rattle.rules.specs.State.{State}
-use Rattle.wait.specs.declared.Wait.{Wait}
-use Rattle.constants.specs.Kernel.{CEC-MODE-MONITOR-ALL}
 
 copyTo-waits : (e : Entry) (s : State) (h : ℕ) → copyTo e s h .waits ≡ s .waits
 unfolding copyTo

@@ -8,15 +8,15 @@ use Rattle.core.specs.Work.{messageOf, abortOf, workOf}
 use Rattle.entry.specs.Entry.{messageCopy}
 use Rattle.incoming.proofs.Alike.{Alike, alike-trans, replied-alike, notes-alike, answers-alike, followed-alike}
 use Rattle.incoming.proofs.Copied.{copies-waits, followers-same}
-use Rattle.incoming.specs.Steps.{chosenOf, followerKind, notedIn, putInto}
-use Rattle.incoming.specs.declared.steps.Chosen.{Chosen}
-use Rattle.lists.specs.Tests.{split}
+use Rattle.incoming.specs.Steps.{followerKind, notedIn, putInto}
 use Rattle.message.specs.declared.Message.{Message}
-use Rattle.rules.specs.Core.{answers, coreAnswer, isAnswered, notes, sends}
+use Rattle.rules.specs.Core.{answers, coreAnswer, notes, sends}
 use Rattle.rules.specs.Deliver.{copies}
 use Rattle.rules.specs.Handles.{inRole, someone, isExclusiveFollower, isFollower, isPassthrough}
-use Rattle.rules.specs.Incoming.{followed, handled, heard, isCopied, isUnhandled, monitors, refusedMessage, replied, stops}
+use Rattle.rules.specs.Incoming.{followed, handled, heard, monitors, refusedMessage, replied, stops}
 use Rattle.rules.specs.State.{State}
+use Rattle.steps.specs.Steps.{chosenOf}
+use Rattle.steps.specs.declared.Chosen.{Chosen}
 use Rattle.waits.specs.Waits.{Taken, matchTaken}
 
 pub when-taken : (b : Bool) (x y z : State) → b ≡ true → z ≡ x → z ≡ cond b x y

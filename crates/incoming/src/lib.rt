@@ -7,7 +7,7 @@ ghost use Rattle.rules.specs.Incoming.{incomingRefusal, stops, handled, heard, 
 ghost use Rattle.waits.specs.Waits.{matchTaken};
 ghost use Rattle.incoming.specs.Steps.{monitorKind, followerKind};
 
-pub mod steps;
+mod step;
 
 use constants::CEC_LOG_ADDR_BROADCAST;
 use constants::EINVAL;
@@ -59,12 +59,12 @@ fn handled(parts: Parts, message: Message) -> Parts
     let wait = ended.wait;
     let work = core::work_for(parts.settings, message);
     let to_do = steps::choose(parts.handles, work, ended.found, wait.to_followers, message);
-    let mut after = steps::replied(parts, ended, message);
+    let mut after = step::replied(parts, ended, message);
     if to_do.notes {
-        after = steps::noted(after, message);
+        after = step::noted(after, message);
     }
     if to_do.answers {
-        after = steps::sent(after, work.answer);
+        after = step::sent(after, work.answer);
     }
     if to_do.copies {
         after = copies::copies(
@@ -73,7 +73,7 @@ fn handled(parts: Parts, message: Message) -> Parts
             Entry::message_copy(message),
         );
     }
-    steps::aborted(after, to_do.aborts, message)
+    step::aborted(after, to_do.aborts, message)
 }
 
 fn heard(parts: Parts, message: Message) -> Parts

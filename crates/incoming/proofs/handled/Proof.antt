@@ -1,24 +1,25 @@
 -- `incoming::handled` meets its contract. Assumes nothing.
-use borrow.Author.Needs.{needs}
-use Rattle.incoming.proofs.handled.Statement.{statement}
-use Rattle.incoming.proofs.handled.Tie as tie
 use mathlib.Core.Bool.{cond}
 use mathlib.Core.Logic.{⊎-elim}
 use mathlib.Core.Path.{_≡_, ap, sym, _∙_}
+use borrow.Author.Needs.{needs}
 use Rattle.copies.specs.Kinds.{getsCopies}
 use Rattle.core.specs.Work.{messageOf}
 use Rattle.core.specs.declared.Work.{Work}
 use Rattle.entry.specs.Entry.{messageCopy}
 use Rattle.incoming.proofs.Turns.{handled-steps, toDo, when-left, when-taken}
-use Rattle.incoming.specs.Steps.{chosenOf, followerKind, notedIn, putInto}
-use Rattle.incoming.specs.declared.steps.Chosen.{Chosen}
+use Rattle.incoming.specs.Steps.{followerKind, notedIn, putInto}
 use Rattle.parts.specs.Parts.{stateOf}
 use Rattle.rules.specs.Core.{coreAnswer}
 use Rattle.rules.specs.Deliver.{copies}
 use Rattle.rules.specs.Handles.{inRole}
 use Rattle.rules.specs.Incoming.{handled, replied}
 use Rattle.rules.specs.State.{State}
+use Rattle.steps.specs.Steps.{chosenOf}
+use Rattle.steps.specs.declared.Chosen.{Chosen}
 use Rattle.waits.specs.Waits.{Taken, takenOf}
+use Rattle.incoming.proofs.handled.Statement.{statement}
+use Rattle.incoming.proofs.handled.Tie as tie
 
 take-match-requires : tie.Need-take-match-requires
 take-match-requires c κs = search needs

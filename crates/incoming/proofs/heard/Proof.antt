@@ -1,8 +1,6 @@
 -- `incoming::heard` meets its contract. Assumes nothing.
-use borrow.Author.Needs.{needs}
-use Rattle.incoming.proofs.heard.Statement.{statement}
-use Rattle.incoming.proofs.heard.Tie as tie
 use mathlib.Core.Path.{_≡_, ap, _∙_}
+use borrow.Author.Needs.{needs}
 use Rattle.entry.specs.Entry.{messageCopy}
 use Rattle.incoming.proofs.Copied.{monitors-same}
 use Rattle.incoming.proofs.Turns.{heard-on, heard-stopped}
@@ -10,6 +8,8 @@ use Rattle.parts.specs.Parts.{stateOf}
 use Rattle.rules.specs.Deliver.{copies}
 use Rattle.rules.specs.Handles.{inRole, isHere}
 use Rattle.rules.specs.Incoming.{monitors}
+use Rattle.incoming.proofs.heard.Statement.{statement}
+use Rattle.incoming.proofs.heard.Tie as tie
 
 destination-requires : tie.Need-destination-requires
 destination-requires c κs = search needs

@@ -1,11 +1,11 @@
 -- `incoming::message` meets its contract. Assumes nothing.
-use borrow.Author.Needs.{needs}
-use Rattle.incoming.proofs.message.Statement.{statement}
-use Rattle.incoming.proofs.message.Tie as tie
 use mathlib.Core.Path.{refl}
+use borrow.Author.Needs.{needs}
 use Rattle.parts.proofs.Outcomes.{refused-outcome, done-outcome}
 use Rattle.parts.specs.Parts.{stateOf}
 use Rattle.rules.specs.Incoming.{doMessage}
+use Rattle.incoming.proofs.message.Statement.{statement}
+use Rattle.incoming.proofs.message.Tie as tie
 
 message-errno-requires : tie.Need-message-errno-requires
 message-errno-requires c κs = search needs

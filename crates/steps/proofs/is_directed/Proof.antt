@@ -1,7 +1,7 @@
--- `incoming::steps::is_directed` meets its contract. Assumes nothing.
+-- `steps::is_directed` meets its contract. Assumes nothing.
 use borrow.Author.Needs.{needs}
-use Rattle.incoming.proofs.steps.is_directed.Statement.{statement}
-use Rattle.incoming.proofs.steps.is_directed.Tie as tie
+use Rattle.steps.proofs.is_directed.Statement.{statement}
+use Rattle.steps.proofs.is_directed.Tie as tie
 
 destination-requires : tie.Need-destination-requires
 destination-requires c κs = search needs

@@ -1,11 +1,11 @@
--- `incoming::steps::choose` meets its contract. Assumes nothing.
-use borrow.Author.Needs.{needs}
-use Rattle.incoming.proofs.steps.choose.Statement.{statement}
-use Rattle.incoming.proofs.steps.choose.Tie as tie
+-- `steps::choose` meets its contract. Assumes nothing.
 use native.Mathlib.Omega.{arith}
+use borrow.Author.Needs.{needs}
 use Rattle.handles.proofs.Slots.{handles-long}
 use Rattle.handles.specs.Roles.{handlesOf}
 use Rattle.lists.specs.Places.{without-past}
+use Rattle.steps.proofs.choose.Statement.{statement}
+use Rattle.steps.proofs.choose.Tie as tie
 
 roles-requires : tie.Need-roles-requires
 roles-requires c κs = search needs

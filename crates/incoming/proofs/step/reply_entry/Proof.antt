@@ -1,9 +1,9 @@
--- `incoming::steps::reply_entry` meets its contract. Assumes nothing.
-use borrow.Author.Needs.{needs}
-use Rattle.incoming.proofs.steps.reply_entry.Statement.{statement}
-use Rattle.incoming.proofs.steps.reply_entry.Tie as tie
+-- `incoming::step::reply_entry` meets its contract. Assumes nothing.
 use mathlib.Core.Path.{sym, _∙_}
+use borrow.Author.Needs.{needs}
 use borrow.Author.Tests.{ne-eqb}
+use Rattle.incoming.proofs.step.reply_entry.Statement.{statement}
+use Rattle.incoming.proofs.step.reply_entry.Tie as tie
 
 opcode-requires : tie.Need-opcode-requires
 opcode-requires c κs = search needs

@@ -1,10 +1,10 @@
--- `incoming::steps::noted` meets its contract. Assumes nothing.
-use borrow.Author.Needs.{needs}
-use Rattle.incoming.proofs.steps.noted.Statement.{statement}
-use Rattle.incoming.proofs.steps.noted.Tie as tie
+-- `incoming::step::noted` meets its contract. Assumes nothing.
 use native.Mathlib.Omega.{arith}
 use lib.Seq.{set-out}
+use borrow.Author.Needs.{needs}
 use Rattle.incoming.proofs.Lengths.{noted-long}
+use Rattle.incoming.proofs.step.noted.Statement.{statement}
+use Rattle.incoming.proofs.step.noted.Tie as tie
 
 initiator-requires : tie.Need-initiator-requires
 initiator-requires c κs = search needs

@@ -1,7 +1,7 @@
--- `incoming::steps::sent` meets its contract. Assumes nothing.
+-- `incoming::step::sent` meets its contract. Assumes nothing.
 use borrow.Author.Needs.{needs}
-use Rattle.incoming.proofs.steps.sent.Statement.{statement}
-use Rattle.incoming.proofs.steps.sent.Tie as tie
+use Rattle.incoming.proofs.step.sent.Statement.{statement}
+use Rattle.incoming.proofs.step.sent.Tie as tie
 
 ownerless-requires : tie.Need-ownerless-requires
 ownerless-requires c κs = search needs

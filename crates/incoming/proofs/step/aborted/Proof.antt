@@ -1,7 +1,7 @@
--- `incoming::steps::aborted` meets its contract. Assumes nothing.
+-- `incoming::step::aborted` meets its contract. Assumes nothing.
 use borrow.Author.Needs.{needs}
-use Rattle.incoming.proofs.steps.aborted.Statement.{statement}
-use Rattle.incoming.proofs.steps.aborted.Tie as tie
+use Rattle.incoming.proofs.step.aborted.Statement.{statement}
+use Rattle.incoming.proofs.step.aborted.Tie as tie
 
 feature-abort-requires : tie.Need-feature-abort-requires
 feature-abort-requires c κs = search needs

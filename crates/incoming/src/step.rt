@@ -1,76 +1,20 @@
-// The steps of a message from the wire, and which of them are to be done.
+// Steps 3, 4 and 6 of a message from the wire, each by itself.
 ghost use Prim.Native.Nat.{_+_, _*_};
 ghost use mathlib.Core.Bool.{cond};
 ghost use mathlib.Core.Path.{_≡_};
 ghost use Rattle.constants.specs.Kernel.{CEC-OP-ABORT-UNRECOGNIZED-OP};
 ghost use Rattle.core.specs.Work.{messageOf, abortOf};
-ghost use Rattle.handles.specs.Roles.{handlesOf};
-ghost use Rattle.incoming.specs.Steps.{chosenOf, putInto, notedIn};
+ghost use Rattle.incoming.specs.Steps.{putInto, notedIn};
 ghost use Rattle.parts.specs.Parts.{stateOf};
-ghost use Rattle.rules.specs.Core.{isDirected, isRegistered};
 ghost use Rattle.rules.specs.Incoming.{replyEntry, replied};
 ghost use Rattle.waits.specs.Waits.{takenOf};
-use constants::CEC_LOG_ADDR_BROADCAST;
-use constants::CEC_LOG_ADDR_UNREGISTERED;
 use constants::CEC_MSG_FEATURE_ABORT;
 use constants::CEC_OP_ABORT_UNRECOGNIZED_OP;
-use core::Work;
 use entry::Entry;
-use handles::Handles;
 use message::Message;
 use parts::Parts;
 use transmission::Transmission;
 use waits::Ended;
-
-// What is to be done with a message after step 3.
-pub struct Chosen {
-    pub notes: bool,
-    pub answers: bool,
-    pub copies: bool,
-    pub exclusive: bool,
-    pub aborts: bool,
-}
-
-fn is_directed(message: Message) -> bool
-    ensures { λ r. ⌜ r ≡ isDirected message ⌝ }
-{
-    message.destination() != CEC_LOG_ADDR_BROADCAST
-}
-
-fn is_registered(message: Message) -> bool
-    ensures { λ r. ⌜ r ≡ isRegistered message ⌝ }
-{
-    message.initiator() != CEC_LOG_ADDR_UNREGISTERED
-}
-
-// From the handles, the core's work, whether the message is a reply and whether its flag was set.
-pub fn choose(
-    handles: Handles,
-    work: Work,
-    found: bool,
-    to_followers: bool,
-    message: Message,
-) -> Chosen
-    ensures { λ r. ⌜ r ≡ chosenOf (handlesOf handles) work found «to_followers» message ⌝ }
-{
-    let roles = handles.roles(8);
-    let directed = is_directed(message);
-    let registered = is_registered(message);
-    let answers = directed & registered & !roles.passthrough & work.is_question;
-    let notes = work.is_report & (5 <= message.length()) & registered;
-    Chosen {
-        notes: notes,
-        answers: answers,
-        copies: !answers & (!found | to_followers),
-        exclusive: roles.exclusive_follower,
-        aborts: !found
-            & !roles.follower
-            & !(answers | notes)
-            & directed
-            & registered
-            & (message.opcode() != CEC_MSG_FEATURE_ABORT),
-    }
-}
 
 fn reply_entry(number: u32, message: Message) -> Entry
     ensures { λ r. ⌜ r ≡ replyEntry number message ⌝ }

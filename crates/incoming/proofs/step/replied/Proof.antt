@@ -1,7 +1,7 @@
--- `incoming::steps::replied` meets its contract. Assumes nothing.
+-- `incoming::step::replied` meets its contract. Assumes nothing.
 use borrow.Author.Needs.{needs}
-use Rattle.incoming.proofs.steps.replied.Statement.{statement}
-use Rattle.incoming.proofs.steps.replied.Tie as tie
+use Rattle.incoming.proofs.step.replied.Statement.{statement}
+use Rattle.incoming.proofs.step.replied.Tie as tie
 
 reply-entry-requires : tie.Need-reply-entry-requires
 reply-entry-requires c κs = search needs

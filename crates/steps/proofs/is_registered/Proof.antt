@@ -1,7 +1,7 @@
--- `incoming::steps::is_registered` meets its contract. Assumes nothing.
+-- `steps::is_registered` meets its contract. Assumes nothing.
 use borrow.Author.Needs.{needs}
-use Rattle.incoming.proofs.steps.is_registered.Statement.{statement}
-use Rattle.incoming.proofs.steps.is_registered.Tie as tie
+use Rattle.steps.proofs.is_registered.Statement.{statement}
+use Rattle.steps.proofs.is_registered.Tie as tie
 
 initiator-requires : tie.Need-initiator-requires
 initiator-requires c κs = search needs
