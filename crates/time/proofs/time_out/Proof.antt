@@ -10,7 +10,7 @@ put-requires : tie.Need-put-requires
 put-requires c κs = search needs
 
 returns : tie.Need-returns
-returns c = rw (← c .before .timed-out .ensures) (c .put .ensures)
+returns c = rw (c .put .ensures, c .before .timed-out .ensures)
 
 pub time-out-spec : {M : Type 1} → statement M
 time-out-spec = tie.close (tie.spec timed-out-requires put-requires returns)
