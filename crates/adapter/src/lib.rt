@@ -2,7 +2,7 @@
 ghost use mathlib.Core.Logic.{_≢_};
 ghost use mathlib.Core.Path.{_≡_};
 ghost use Rattle.adapter.specs.Adapter.{stateOf, doneOf, openedOf, transmittedOf, receivedOf, startedOf};
-ghost use Rattle.rules.specs.Call.{callOpen, callClose, callMode, callTransmit, callReceive, callBusStart, callBusResult};
+ghost use Rattle.rules.specs.Call.{callOpen, callClose, callMode, callTransmit, callReceive, callBusStart, callBusResult, callMessage, callTime, callConfigure, callUnconfigure};
 ghost use Rattle.rules.specs.State.{fresh};
 ghost use Rattle.rules.specs.Step.{step};
 ghost use Rattle.transmit.specs.Request.{requestOf};
@@ -10,6 +10,7 @@ use entry::Counts;
 use entry::Entry;
 use message::Message;
 use parts::Parts;
+use settings::Settings;
 use transmit::request::Request;
 
 #[repr(C)]
@@ -148,5 +149,32 @@ impl Adapter {
         ensures { λ r. ⌜ (r .errno ≢ 0 → r .adapter ≡ self) ⌝ }
     {
         of_done(bus::result::bus_result(self.parts, status, counts))
+    }
+    // A message came from the wire.
+    pub fn message(self, length: u8, bytes: [u8; 16]) -> Done
+        ensures { λ r. ⌜ doneOf r ≡ step (stateOf self) (callMessage length bytes) ⌝ }
+        ensures { λ r. ⌜ (r .errno ≢ 0 → r .adapter ≡ self) ⌝ }
+    {
+        of_done(incoming::message(self.parts, length, bytes))
+    }
+
+    // Milliseconds passed.
+    pub fn time(self, ms: u32) -> Done
+        ensures { λ r. ⌜ doneOf r ≡ step (stateOf self) (callTime ms) ⌝ }
+    {
+        of_done(time::time(self.parts, ms))
+    }
+
+    pub fn configure(self, settings: Settings) -> Done
+        ensures { λ r. ⌜ doneOf r ≡ step (stateOf self) (callConfigure settings) ⌝ }
+        ensures { λ r. ⌜ (r .errno ≢ 0 → r .adapter ≡ self) ⌝ }
+    {
+        of_done(configuration::configure::configure(self.parts, settings))
+    }
+
+    pub fn unconfigure(self) -> Done
+        ensures { λ r. ⌜ doneOf r ≡ step (stateOf self) callUnconfigure ⌝ }
+    {
+        of_done(configuration::unconfigure::unconfigure(self.parts))
     }
 }

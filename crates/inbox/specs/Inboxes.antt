@@ -1,10 +1,11 @@
 -- The eight inboxes of at most 16 entries, each oldest first (document 01, "The adapter's parts").
 -- Assumes nothing.
-use Prim.Native.Nat.{ℕ, _≤_, _<_}
+use Prim.Native.Nat.{ℕ, _+_, _≤_, _<_}
 use mathlib.Core.List.{List, [], _∷_, _++_}
-use mathlib.Core.Path.{_≡_, sym}
-use lib.ListN.{length, getD, set, drop}
-use lib.Seq.{set-out, set-getD}
+use mathlib.Core.Path.{_≡_, refl, sym}
+use native.Mathlib.Numerals.{add-one}
+use lib.ListN.{length, getD, set, take, drop}
+use lib.Seq.{set-out, set-getD, take-suc}
 use borrow.Author.Tests.{lt-ltb, le-ltb}
 use Rattle.lists.specs.Blocks.{parts}
 use Rattle.lists.specs.Places.{drop-empty}
@@ -24,6 +25,12 @@ inboxOf is h = getD is h []
 -- one more entry at the end of handle h's inbox; a full one stays
 abbrev pub delivered : List (List Entry) → ℕ → Entry → List (List Entry)
 delivered is h e = set is h (put 16 (inboxOf is h) e)
+
+-- entries one after the other: for the owner of each thing, an entry of it
+module _ {A : Type 0} (owner : A → ℕ) (entry : A → Entry) where
+  abbrev pub deliveredAll : List (List Entry) → List A → List (List Entry)
+  deliveredAll is [] = is
+  deliveredAll is (x ∷ xs) = deliveredAll (delivered is (owner x) (entry x)) xs
 
 -- the oldest entry of handle h's inbox, or none
 abbrev pub oldest : List (List Entry) → ℕ → Entry
@@ -49,3 +56,13 @@ delivered-room is h e b = rw (lt-ltb (length (inboxOf is h)) 16 b)
 
 pub taken-none : (is : List (List Entry)) (h : ℕ) → length (inboxOf is h) ≡ 0 → is ≡ oldestTaken is h
 taken-none is h b = rw (← drop-empty (inboxOf is h) b) (sym (set-getD is h []))
+
+module _ {A : Type 0} (owner : A → ℕ) (entry : A → Entry) where
+  pub delivered-append : (is : List (List Entry)) (xs ys : List A) → deliveredAll owner entry is (xs ++ ys) ≡ deliveredAll owner entry (deliveredAll owner entry is xs) ys
+  delivered-append is [] ys = refl
+  delivered-append is (x ∷ xs) ys = delivered-append (delivered is (owner x) (entry x)) xs ys
+
+  -- a loop over the first i elements goes on to the next
+  pub delivered-next : (is : List (List Entry)) (l : List A) (i : ℕ) (d : A) → i < length l
+      → deliveredAll owner entry is (take (i + 1) l) ≡ delivered (deliveredAll owner entry is (take i l)) (owner (getD l i d)) (entry (getD l i d))
+  delivered-next is l i d h = rw (add-one, take-suc l i d h) (delivered-append is (take i l) (getD l i d ∷ []))

@@ -10,7 +10,7 @@ use lib.Dec.{eqb, ltb}
 use lib.ListN.{length, getD, take, drop, length-append}
 use lib.Seq.{take-suc, getD-take, length-take-le}
 use borrow.Author.Tests.{lt-ltb, ltb-true, ltb-false, eqb-true, eqb-false}
-use Rattle.lists.specs.Sums.{any, any-append, sum}
+use Rattle.lists.specs.Sums.{any, any-append, keep, sum}
 use Rattle.lists.specs.Tests.{split, clash, neither, or-true, or-false}
 
 module _ {A : Type 0} where
@@ -130,6 +130,12 @@ module _ {A : Type 0} where
   sum-without f i [] d h = absurd (omega arith)
   sum-without f zero (x ∷ l) d h = omega arith
   sum-without f (suc i) (x ∷ l) d h = omega (arith, sum-without f i l d (omega arith))
+
+  -- one that fails a test taken out: those that pass it stay
+  pub keep-without : (p : A → Bool) (i : ℕ) (xs : List A) (d : A) → p (getD xs i d) ≡ false → keep p (without i xs) ≡ keep p xs
+  keep-without p i [] d e = refl
+  keep-without p zero (x ∷ xs) d e = rw e
+  keep-without p (suc i) (x ∷ xs) d e = rw (keep-without p i xs d e)
 
   pub take-without : (i : ℕ) (l : List A) → take i (without i l) ≡ take i l
   take-without zero [] = refl

@@ -109,6 +109,30 @@ module _ {A : Type 0} where
       let ih = any-taken p l i n d (omega arith) (omega arith) e in
       split (p x) (λ q. rw q) (λ q. rw (q, ih))
 
+  -- none passes a test that asks for more
+  pub any-fewer : (p q : A → Bool) (xs : List A) → ((x : A) → q x ≡ false → p x ≡ false) → any q xs ≡ false → any p xs ≡ false
+  any-fewer p q [] h e = refl
+  any-fewer p q (x ∷ xs) h e =
+      let m = neither (q x) (any q xs) e in
+      rw (h x (m .0), any-fewer p q xs h (m .1))
+
+  -- none of those kept passes a test that none of all passes
+  pub any-keep : (p q : A → Bool) (xs : List A) → any q xs ≡ false → any q (keep p xs) ≡ false
+  any-keep p q xs e = none-any q (keep p xs) (omega (arith, any-none q xs e, sum-split (λ x. bit (q x)) p xs))
+
+  -- where none passes the test: none is kept by it, and all by its opposite
+  pub keep-none : (p : A → Bool) (xs : List A) → any p xs ≡ false → keep p xs ≡ []
+  keep-none p [] e = refl
+  keep-none p (x ∷ xs) e =
+      let m = neither (p x) (any p xs) e in
+      rw (m .0, keep-none p xs (m .1))
+
+  pub keep-all : (p : A → Bool) (xs : List A) → any p xs ≡ false → keep (λ x. not (p x)) xs ≡ xs
+  keep-all p [] e = refl
+  keep-all p (x ∷ xs) e =
+      let m = neither (p x) (any p xs) e in
+      rw (m .0, keep-all p xs (m .1))
+
 pub sum-map : {A B : Type 0} (f : B → ℕ) (g : A → B) (xs : List A) → sum f (map g xs) ≡ sum (λ x. f (g x)) xs
 sum-map f g [] = refl
 sum-map f g (x ∷ xs) = omega (arith, sum-map f g xs)

@@ -4,7 +4,7 @@ ghost use mathlib.Core.Path.{_≡_};
 ghost use Rattle.rules.specs.Call.{check};
 ghost use Rattle.rules.specs.Handles.{handleAt, isOpen, isConfigured, isOwn};
 ghost use Rattle.rules.specs.Owed.{roomTaken, wantedReplies};
-ghost use Rattle.rules.specs.State.{fresh, noSettings};
+ghost use Rattle.rules.specs.State.{fresh, noSettings, noneNoted};
 ghost use Rattle.parts.specs.Parts.{stateOf};
 use constants::CEC_LOG_ADDR_UNREGISTERED;
 use constants::CEC_PHYS_ADDR_INVALID;
@@ -40,7 +40,8 @@ pub fn check(test: bool, errno: u32, later: u32) -> u32
     if test { errno } else { later }
 }
 
-fn no_settings() -> Settings
+// The settings as unconfigure leaves them.
+pub fn no_settings() -> Settings
     ensures { λ r. ⌜ r ≡ noSettings ⌝ }
 {
     Settings {
@@ -52,6 +53,13 @@ fn no_settings() -> Settings
         name_length: 0,
         name: [0; 14],
     }
+}
+
+// The noted addresses, cleared.
+pub fn none_noted() -> [u16; 15]
+    ensures { λ r. ⌜ r ≡ noneNoted ⌝ }
+{
+    [CEC_PHYS_ADDR_INVALID; 15]
 }
 
 impl Parts {
@@ -67,7 +75,7 @@ impl Parts {
             traffic: Traffic::none(),
             last: 0,
             settings: no_settings(),
-            noted: [CEC_PHYS_ADDR_INVALID; 15],
+            noted: none_noted(),
         }
     }
 

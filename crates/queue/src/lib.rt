@@ -2,12 +2,12 @@
 ghost use Prim.Native.Nat.{_≤_};
 ghost use mathlib.Core.Path.{_≡_};
 ghost use mathlib.Core.List.{[], map};
-ghost use lib.ListN.{length, drop};
+ghost use lib.ListN.{length, getD, drop};
 ghost use Rattle.lists.specs.Sums.{any};
 ghost use Rattle.lists.specs.Vector.{put};
 ghost use Rattle.transmission.specs.Transmission.{orphaned, numbered};
 ghost use Rattle.queue.specs.Queue.{queueOf};
-ghost use Rattle.transmission.specs.Transmission.{headOf, owedBy};
+ghost use Rattle.transmission.specs.Transmission.{noTransmission, headOf, owedBy};
 use transmission::Owed;
 use transmission::Transmission;
 
@@ -63,6 +63,16 @@ impl Queue {
             return Transmission::none();
         }
         self.slots[0]
+    }
+
+    // The transmission at a place, or none.
+    pub fn at(self, i: usize) -> Transmission
+        ensures { λ r. ⌜ r ≡ getD (queueOf self) i noTransmission ⌝ }
+    {
+        if self.count() <= i {
+            return Transmission::none();
+        }
+        self.slots[i]
     }
 
     // The head taken out.

@@ -6,3 +6,4 @@ pub mod Entries
 pub mod Accepted
 pub mod CoreSends
 pub mod Growth
+pub mod Deliveries

@@ -45,6 +45,16 @@ impl Waits {
         if n < 32 { n } else { 32 }
     }
 
+    // The wait at a place, or none.
+    pub fn at(self, i: usize) -> Wait
+        ensures { λ r. ⌜ r ≡ getD (waitsOf self) i noWait ⌝ }
+    {
+        if self.count() <= i {
+            return Wait::none();
+        }
+        self.slots[i]
+    }
+
     // One more at the end; a full list stays.
     pub fn put(mut self, wait: Wait) -> Waits
         ensures { λ r. ⌜ waitsOf r ≡ put 32 (waitsOf self) wait ⌝ }

@@ -16,11 +16,14 @@ none-requires c κs = search needs
 no-settings-requires : tie.Need-no-settings-requires
 no-settings-requires c κs = search needs
 
+none-noted-requires : tie.Need-none-noted-requires
+none-noted-requires c κs = search needs
+
 returns : tie.Need-returns
 unfolding fresh
-returns c = rw (c .before .before .before .all-closed .ensures, c .before .before .empty .ensures, c .before .none .ensures .0, c .before .none .ensures .1, c .before .none .ensures .2, c .no-settings .ensures)
+returns c = rw (c .before .before .before .before .all-closed .ensures, c .before .before .before .empty .ensures, c .before .before .none .ensures .0, c .before .before .none .ensures .1, c .before .before .none .ensures .2, c .before .no-settings .ensures, c .none-noted .ensures)
 
 pub fresh-spec : {M : Type 1} → statement M
 fresh-spec =
     tie.close
-    (tie.spec all-closed-requires empty-requires none-requires no-settings-requires returns)
+    (tie.spec all-closed-requires empty-requires none-requires no-settings-requires none-noted-requires returns)

@@ -1,0 +1,36 @@
+-- `queue::Queue::at` meets its contract. Assumes nothing.
+use mathlib.Core.Path.{sym, _∙_}
+use native.Mathlib.Omega.{arith}
+use lib.ListN.{List·getD-eq-default}
+use borrow.Author.Needs.{needs}
+use Rattle.lists.specs.Vector.{slot-read}
+use Rattle.transmission.specs.Transmission.{noTransmission}
+use Rattle.queue.specs.Queue.{queueOf}
+use Rattle.queue.proofs.Queue.at.Statement.{statement}
+use Rattle.queue.proofs.Queue.at.Tie as tie
+
+count-requires : tie.Need-count-requires
+count-requires c κs = search needs
+
+none-requires : tie.Need-none-requires
+none-requires c κs = search needs
+
+returns : tie.Need-returns
+returns c =
+    let a = c .before .before .before .args in
+    let e = c .before .before .count .ensures .0 in
+    c .none .ensures ∙ sym (List·getD-eq-default (queueOf (a .t1)) noTransmission {n = a .i} (omega arith))
+
+mul-result : tie.Need-mul-result
+mul-result c = search needs
+
+element-copy-out-result : tie.Need-element-copy-out-result
+element-copy-out-result c = search needs
+
+returns-2 : tie.Need-returns-2
+returns-2 c =
+    let a = c .before .before .before .args in
+    sym (slot-read (a .t1 .slots) (a .t1 .count) _ (c .before .before .count .ensures .0) (a .i) noTransmission _ (omega arith))
+
+pub at-spec : {M : Type 1} → statement M
+at-spec = tie.close (tie.spec count-requires none-requires returns mul-result element-copy-out-result returns-2)
