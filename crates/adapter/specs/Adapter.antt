@@ -6,8 +6,8 @@ use Rattle.adapter.specs.declared.Opened.{Opened}
 use Rattle.adapter.specs.declared.Received.{Received}
 use Rattle.adapter.specs.declared.Started.{Started}
 use Rattle.adapter.specs.declared.Transmitted.{Transmitted}
-use Rattle.parts.specs.Parts.{orRefused}
 use Rattle.parts.specs.Parts as parts
+use Rattle.parts.specs.Parts.{orRefused}
 use Rattle.rules.specs.Call.{Outcome, finish, done, opened, accepted, received, started}
 use Rattle.rules.specs.State.{State}
 
