@@ -1,13 +1,35 @@
-// The camera program and the chart program share one wire. Each line says which handle got what, under which number.
+// The camera program and the chart program share one wire. Each line says which program got what, under which number.
 use adapter::Adapter;
+use constants::CEC_LOG_ADDR_BROADCAST;
 use constants::CEC_LOG_ADDR_UNREGISTERED;
+use constants::CEC_MODE_MONITOR;
+use constants::CEC_MSG_FEATURE_ABORT;
+use constants::CEC_MSG_GIVE_DEVICE_POWER_STATUS;
 use constants::CEC_MSG_IMAGE_VIEW_ON;
-use constants::CEC_MSG_TEXT_VIEW_ON;
+use constants::CEC_MSG_REPORT_POWER_STATUS;
 use constants::CEC_TX_STATUS_MAX_RETRIES;
 use constants::CEC_TX_STATUS_NACK;
 use constants::CEC_TX_STATUS_OK;
 use entry::Counts;
+use settings::Settings;
 use transmit::request::Request;
+
+// The display and the amplifier on the wire, and the address of the box.
+const DISPLAY: u8 = 0;
+
+const AMPLIFIER: u8 = 5;
+
+const BOX: u8 = 4;
+
+// Set Menu Language, which a display sends to all.
+const SET_MENU_LANGUAGE: u8 = 0x32;
+
+// The handles that the programs get.
+const CAMERA: u8 = 0;
+
+const CHART: u8 = 1;
+
+const MONITOR: u8 = 2;
 
 fn say(text: &[u8]) {
     io::write_all(1, text);
@@ -18,24 +40,53 @@ fn say_number(text: &[u8], number: u32) {
     io::print_decimal(1, number as u64);
 }
 
-fn opened(adapter: Adapter, program: &[u8]) -> Adapter {
-    let answer = adapter.open(false);
-    say(program);
+fn say_program(handle: u8) {
+    if handle == CAMERA {
+        say(b"camera");
+    } else if handle == CHART {
+        say(b"chart");
+    } else {
+        say(b"monitor");
+    }
+}
+
+fn opened(adapter: Adapter, privileged: bool) -> Adapter {
+    let answer = adapter.open(privileged);
+    say_program(answer.handle);
     say_number(b": open, errno ", answer.errno);
     say_number(b", handle ", answer.handle as u32);
     say(b"\n");
     answer.adapter
 }
 
-// A message without parameters to the display, from a box that has no address yet.
-fn wake_up(opcode: u8) -> Request {
+fn configured(adapter: Adapter) -> Adapter {
+    let mut name = [0; 14];
+    name[0] = 0x54;
+    name[1] = 0x55;
+    name[2] = 0x47;
+    let answer = adapter.configure(Settings {
+        physical_address: 0x1000,
+        mask: 0x0010,
+        version: 5,
+        device_type: 4,
+        vendor_id: 0x00A0B0,
+        name_length: 3,
+        name: name,
+    });
+    say_number(b"box: configure, errno ", answer.errno);
+    say(b"\n");
+    answer.adapter
+}
+
+// A message without parameters.
+fn request(from: u8, to: u8, opcode: u8, reply: u8) -> Request {
     let mut bytes = [0; 16];
-    bytes[0] = CEC_LOG_ADDR_UNREGISTERED * 16;
+    bytes[0] = from % 16 * 16 + to % 16;
     bytes[1] = opcode;
     Request {
         length: 2,
         bytes: bytes,
-        reply: 0,
+        reply: reply,
         timeout: 0,
         flags: 0,
     }
@@ -43,18 +94,33 @@ fn wake_up(opcode: u8) -> Request {
 
 fn transmitted(adapter: Adapter, handle: u8, request: Request) -> Adapter {
     let answer = adapter.transmit(handle, request);
-    say_number(b"handle ", handle as u32);
-    say_number(b": transmit, errno ", answer.errno);
+    say_program(handle);
+    say_number(b": transmit to ", (request.bytes[0] % 16) as u32);
+    say_number(b", errno ", answer.errno);
     say_number(b", number ", answer.number);
     say(b"\n");
     answer.adapter
+}
+
+// A device is asked for its power status.
+fn asked(adapter: Adapter, handle: u8, device: u8) -> Adapter {
+    transmitted(
+        adapter,
+        handle,
+        request(
+            BOX,
+            device,
+            CEC_MSG_GIVE_DEVICE_POWER_STATUS,
+            CEC_MSG_REPORT_POWER_STATUS,
+        ),
+    )
 }
 
 // The next message goes out and comes to its end.
 fn sent(adapter: Adapter, status: u8, counts: Counts) -> Adapter {
     let start = adapter.bus_start();
     say_number(b"wire: start, errno ", start.errno);
-    say_number(b", opcode ", start.message.opcode() as u32);
+    say_number(b", to ", start.message.destination() as u32);
     let end = start.adapter.bus_result(status, counts);
     say_number(b"; result, errno ", end.errno);
     say_number(b", status ", status as u32);
@@ -62,28 +128,176 @@ fn sent(adapter: Adapter, status: u8, counts: Counts) -> Adapter {
     end.adapter
 }
 
+// A message of three bytes comes from the wire.
+fn came(adapter: Adapter, from: u8, to: u8, opcode: u8, third: u8) -> Adapter {
+    let mut bytes = [0; 16];
+    bytes[0] = from % 16 * 16 + to % 16;
+    bytes[1] = opcode;
+    bytes[2] = third;
+    adapter.message(3, bytes).adapter
+}
+
+// A device answers the box.
+fn answered(adapter: Adapter, from: u8, opcode: u8, third: u8) -> Adapter {
+    say_number(b"wire: message from ", from as u32);
+    say_number(b", opcode ", opcode as u32);
+    say(b"\n");
+    came(adapter, from, BOX, opcode, third)
+}
+
 fn received(adapter: Adapter, handle: u8) -> Adapter {
     let answer = adapter.receive(handle);
-    say_number(b"handle ", handle as u32);
-    say_number(b": receive, errno ", answer.errno);
-    say_number(b", number ", answer.entry.sequence);
-    say_number(b", tx_status ", answer.entry.tx_status as u32);
-    say_number(b", opcode ", answer.entry.message.opcode() as u32);
+    let entry = answer.entry;
+    say_program(handle);
+    if answer.errno != 0 {
+        say_number(b": receive, errno ", answer.errno);
+        say(b"\n");
+        return answer.adapter;
+    }
+    say_number(b": receive, number ", entry.sequence);
+    say_number(b", tx_status ", entry.tx_status as u32);
+    say_number(b", rx_status ", entry.rx_status as u32);
+    say_number(b", opcode ", entry.message.opcode() as u32);
     say(b"\n");
     answer.adapter
 }
 
+fn passed(adapter: Adapter, ms: u32) -> Adapter {
+    say_number(b"clock: milliseconds ", ms);
+    say(b"\n");
+    adapter.time(ms).adapter
+}
+
+// The display tells all devices of a menu, three times.
+fn three_told(adapter: Adapter) -> Adapter {
+    let one = came(
+        adapter,
+        DISPLAY,
+        CEC_LOG_ADDR_BROADCAST,
+        SET_MENU_LANGUAGE,
+        0x65,
+    );
+    let two = came(
+        one,
+        DISPLAY,
+        CEC_LOG_ADDR_BROADCAST,
+        SET_MENU_LANGUAGE,
+        0x65,
+    );
+    came(
+        two,
+        DISPLAY,
+        CEC_LOG_ADDR_BROADCAST,
+        SET_MENU_LANGUAGE,
+        0x65,
+    )
+}
+
+fn nine_told(adapter: Adapter) -> Adapter {
+    three_told(three_told(three_told(adapter)))
+}
+
+// Each program reads what it has, oldest first.
+fn read_out(adapter: Adapter) -> Adapter {
+    received(
+        received(received(received(adapter, CAMERA), CAMERA), CHART),
+        CHART,
+    )
+}
+
+// The display is woken before the box has an address.
+fn woken(adapter: Adapter) -> Adapter {
+    let mut now = transmitted(
+        adapter,
+        CAMERA,
+        request(CEC_LOG_ADDR_UNREGISTERED, DISPLAY, CEC_MSG_IMAGE_VIEW_ON, 0),
+    );
+    now = sent(now, CEC_TX_STATUS_OK, Counts::none());
+    received(now, CAMERA)
+}
+
+// Both ask, the replies come the other way round, and each gets its own.
+fn replies(adapter: Adapter) -> Adapter {
+    let mut now = asked(adapter, CAMERA, DISPLAY);
+    now = asked(now, CHART, AMPLIFIER);
+    now = sent(now, CEC_TX_STATUS_OK, Counts::none());
+    now = sent(now, CEC_TX_STATUS_OK, Counts::none());
+    now = answered(now, AMPLIFIER, CEC_MSG_REPORT_POWER_STATUS, 0);
+    now = answered(now, DISPLAY, CEC_MSG_REPORT_POWER_STATUS, 1);
+    now = read_out(now);
+    received(received(now, CAMERA), CHART)
+}
+
+// One is not answered in time, the other is told that the opcode is not known.
+fn no_replies(adapter: Adapter) -> Adapter {
+    let mut now = asked(adapter, CAMERA, DISPLAY);
+    now = asked(now, CHART, AMPLIFIER);
+    now = sent(now, CEC_TX_STATUS_OK, Counts::none());
+    now = sent(now, CEC_TX_STATUS_OK, Counts::none());
+    now = passed(now, 999);
+    now = answered(
+        now,
+        AMPLIFIER,
+        CEC_MSG_FEATURE_ABORT,
+        CEC_MSG_GIVE_DEVICE_POWER_STATUS,
+    );
+    now = passed(now, 1);
+    read_out(now)
+}
+
+// A message that is not taken off the wire.
+fn refused(adapter: Adapter) -> Adapter {
+    let mut counts = Counts::none();
+    counts.nack = 5;
+    let mut now = asked(adapter, CHART, AMPLIFIER);
+    now = sent(now, CEC_TX_STATUS_NACK | CEC_TX_STATUS_MAX_RETRIES, counts);
+    received(received(now, CHART), CHART)
+}
+
+// A monitor has room for 16 copies.
+fn watched(adapter: Adapter) -> Adapter {
+    let mut now = opened(adapter, true);
+    say_number(
+        b"monitor: mode, errno ",
+        now.mode(MONITOR, CEC_MODE_MONITOR).errno,
+    );
+    say(b"\n");
+    now = now.mode(MONITOR, CEC_MODE_MONITOR).adapter;
+    now = nine_told(nine_told(now));
+    say(b"wire: 18 messages from 0 to all\n");
+    received(received(now, MONITOR), CAMERA)
+}
+
+// One transmit waits for its reply, one is queued: the address is taken away.
+fn unconfigured(adapter: Adapter) -> Adapter {
+    let mut now = asked(adapter, CAMERA, DISPLAY);
+    now = sent(now, CEC_TX_STATUS_OK, Counts::none());
+    now = asked(now, CHART, AMPLIFIER);
+    let answer = now.unconfigure();
+    say_number(b"box: unconfigure, errno ", answer.errno);
+    say(b"\n");
+    now = read_out(answer.adapter);
+    transmitted(
+        now,
+        CHART,
+        request(
+            BOX,
+            AMPLIFIER,
+            CEC_MSG_GIVE_DEVICE_POWER_STATUS,
+            CEC_MSG_REPORT_POWER_STATUS,
+        ),
+    )
+}
+
 fn main() {
     let mut now = Adapter::fresh(true, true);
-    now = opened(now, b"camera");
-    now = opened(now, b"chart");
-    now = transmitted(now, 0, wake_up(CEC_MSG_IMAGE_VIEW_ON));
-    now = transmitted(now, 1, wake_up(CEC_MSG_TEXT_VIEW_ON));
-    now = sent(now, CEC_TX_STATUS_OK, Counts::none());
-    let mut refused = Counts::none();
-    refused.nack = 5;
-    now = sent(now, CEC_TX_STATUS_NACK | CEC_TX_STATUS_MAX_RETRIES, refused);
-    now = received(now, 1);
-    now = received(now, 0);
-    received(now, 1);
+    now = opened(now, false);
+    now = opened(now, false);
+    now = woken(now);
+    now = configured(now);
+    now = replies(now);
+    now = no_replies(now);
+    now = refused(now);
+    now = watched(now);
+    unconfigured(now);
 }
