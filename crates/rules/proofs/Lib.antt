@@ -6,3 +6,5 @@ pub mod Entries
 pub mod Accepted
 pub mod CoreSends
 pub mod Growth
+pub mod Mail
+pub mod Aside
