@@ -1,2 +1,5 @@
 pub mod Histories
 pub mod Broken
+pub mod Invariant
+pub mod Carried
+pub mod Comes

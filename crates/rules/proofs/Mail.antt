@@ -6,10 +6,10 @@ use mathlib.Core.List.{List, [], _∷_, _++_, map, append-assoc, append-nil}
 use mathlib.Core.Path.{_≡_, refl, sym, ap, _∙_}
 use native.Mathlib.Omega.{arith}
 use lib.Dec.{eqb, ltb}
-use lib.ListN.{length, set, length-append, length-set}
+use lib.ListN.{length, set, length-append, length-map, length-set}
 use lib.Seq.{getD-set-same, getD-set-other, set-out, set-getD}
 use borrow.Author.Tests.{eqb-true, eqb-false, ltb-true, ltb-false, lt-ltb}
-use Rattle.lists.specs.Sums.{sum, sum-append, count, keep}
+use Rattle.lists.specs.Sums.{sum, sum-append, count, keep, length-keep-count}
 use Rattle.lists.specs.Tests.{bit, split, eqb-refl}
 use Rattle.lists.specs.Vector.{put}
 use Rattle.entry.specs.declared.Entry.{Entry}
@@ -74,6 +74,12 @@ module _ {A : Type 0} (to : A → ℕ) (entry : A → Entry) where
       let q : inboxOf (post s x .inboxes) h ≡ inboxOf (s .inboxes) h ++ [] = rw e at d in
       rw e (posts-inbox h (post s x) xs m (rw (q, append-nil) (omega arith)) ∙ rw (q, append-nil)))
 
+  pub posts-length : (h : ℕ) (s : State) (xs : List A) → h < length (s .inboxes) → length (inboxOf (s .inboxes) h) + count (λ x. eqb (to x) h) xs ≤ 16
+      → length (inboxOf (each post s xs .inboxes) h) ≡ length (inboxOf (s .inboxes) h) + count (λ x. eqb (to x) h) xs
+  posts-length h s xs l r =
+      let k = keep (λ x. eqb (to x) h) xs in
+      rw (posts-inbox h s xs l r) (omega (arith, length-append (inboxOf (s .inboxes) h) (map entry k), length-map k entry, length-keep-count (λ x. eqb (to x) h) xs))
+
 module _ (h : ℕ) where
   pub mail-same : (s t : State) → inboxOf (t .inboxes) h ≡ inboxOf (s .inboxes) h → Mail h s t []
   mail-same s t e = record { more = []; grown = e ∙ sym (append-nil (inboxOf (s .inboxes) h)); counted = λ f z. refl }
@@ -84,6 +90,10 @@ module _ (h : ℕ) where
     grown = y .grown ∙ ap (λ (l : List Entry). l ++ y .more) (x .grown) ∙ append-assoc (inboxOf (s .inboxes) h) (x .more) (y .more);
     counted = λ f z. omega (arith, sum-append f (x .more) (y .more), sum-append f a b, x .counted f z, y .counted f z);
   }
+
+  -- the same entries, as another state with these inboxes and another list show them
+  pub mail-as : (s t u : State) (a b : List Entry) → u .inboxes ≡ t .inboxes → ((f : Entry → ℕ) → sum f a ≡ sum f b) → Mail h s t a → Mail h s u b
+  mail-as s t u a b e same x = record { more = x .more; grown = rw e (x .grown); counted = λ f z. x .counted f z ∙ same f }
 
   -- a copy, whether it finds room or not
   pub copy-mail : (s : State) (g : ℕ) (e : Entry) → e .sequence ≡ 0 → Mail h s (deliver s g e) []
