@@ -3,3 +3,8 @@ pub mod Broken
 pub mod Invariant
 pub mod Carried
 pub mod Comes
+pub mod Ends
+pub mod TimeEnds
+pub mod UnconfigureEnds
+pub mod BusResultEnds
+pub mod MessageEnds
