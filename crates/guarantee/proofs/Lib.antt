@@ -8,3 +8,5 @@ pub mod TimeEnds
 pub mod UnconfigureEnds
 pub mod BusResultEnds
 pub mod MessageEnds
+pub mod Cases
+pub mod ByCases
