@@ -10,3 +10,4 @@ pub mod BusResultEnds
 pub mod MessageEnds
 pub mod Cases
 pub mod ByCases
+pub mod Keeps
