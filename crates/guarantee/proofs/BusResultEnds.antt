@@ -153,6 +153,7 @@ module _ (s : State) (x : Transmission) (r : Inv s) (w : s .wire ≡ x ∷ []) w
       wired = omega (arith, ap (λ (l : List Transmission). length (drop 1 l)) w);
       sends = λ f z. omega (arith, left-sum f z);
       waits = λ f z. omega (arith, begun-sum status f);
+      older = λ f z. omega arith;
       nearer = λ f z. left-near f z;
       timed = omega (arith, begun-sum status spent, begun-timed status, r .timed);
       late = λ h n b. let z : b - 0 ≡ b = omega arith in rw z (omega (arith, begun-sum status (awaitedAs (λ v. ltb b (v .left)) h n), begun-late status h n b));

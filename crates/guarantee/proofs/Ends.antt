@@ -71,6 +71,7 @@ pub record Ends (s : State) (c : Call) (t : State) : Type 0 where
   -- every transmission of a handle is still to be sent, or ends; every wait waits still, or ends; and those sent with the OK bit that want a reply wait
   pub sends : (f : Transmission → ℕ) → Owned f → sum f (pending t) + sum f sent ≡ sum f (pending s)
   pub waits : (f : Wait → ℕ) → Timeless f → sum f (t .waits) + sum f over ≡ sum f (s .waits) + sum (begins f status) sent
+  pub older : (f : Wait → ℕ) → Timeless f → sum f over ≤ sum f (s .waits)
   -- each bus result brings those to be sent one nearer
   pub nearer : (f : Transmission → ℕ) → Owned f → last f (pending t) ≤ last f (pending s) - bit (isBusResult c)
   -- every wait has time left: less by the time that passed
@@ -98,6 +99,7 @@ aside-ends s t c r a close bus time = record {
   wired = rw (a .wire) (r .wired);
   sends = λ f z. omega (arith, aside-sum f z s t a);
   waits = λ f z. rw (a .waits) (omega arith);
+  older = λ f z. omega arith;
   nearer = λ f z. rw (aside-pending s t a, last-more f (pending s) (map ownerless (a .core)) (core-weightless f z (a .core)), bus) (omega arith);
   timed = rw (a .waits) (r .timed);
   late = λ h n b. let z : b - milliseconds c ≡ b = omega arith in rw (z, a .waits) (omega arith);

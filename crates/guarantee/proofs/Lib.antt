@@ -11,3 +11,4 @@ pub mod MessageEnds
 pub mod Cases
 pub mod ByCases
 pub mod Keeps
+pub mod Brought

@@ -60,6 +60,7 @@ ends-then s t u c e a = record {
   wired = rw (a .wire) (e .wired);
   sends = λ f z. omega (arith, aside-sum f z t u a, e .sends f z);
   waits = λ f z. rw (a .waits) (e .waits f z);
+  older = e .older;
   nearer = λ f z. rw (aside-pending t u a, last-more f (pending t) (map ownerless (a .core)) (core-weightless f z (a .core))) (e .nearer f z);
   timed = rw (a .waits) (e .timed);
   late = λ h n b. rw (a .waits) (e .late h n b);
@@ -114,6 +115,7 @@ module _ (s : State) (r : Inv s) (m : Message) (k : ℕ) (bytes : List ℕ) wher
       wired = rw (a .wire) (r .wired);
       sends = λ f z. omega (arith, aside-sum f z s c a);
       waits = λ f z. omega (arith, sum-without f i (s .waits) noWait l);
+      older = λ f z. omega (arith, sum-without f i (s .waits) noWait l);
       nearer = λ f z. rw (aside-pending s c a, last-more f (pending s) (map ownerless (a .core)) (core-weightless f z (a .core))) (omega arith);
       timed = omega (arith, sum-without spent i (s .waits) noWait l, r .timed);
       late = λ h n b. let z : b - 0 ≡ b = omega arith in rw z (omega (arith, sum-without (awaitedAs (λ v. ltb b (v .left)) h n) i (s .waits) noWait l));

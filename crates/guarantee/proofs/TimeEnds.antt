@@ -93,6 +93,7 @@ module _ (ms : ℕ) where
         wired = r .wired;
         sends = λ f z. omega arith;
         waits = λ f z. omega (arith, sum-time f z (s .waits));
+        older = λ f z. omega (arith, sum-time f z (s .waits));
         nearer = λ f z. omega arith;
         timed = sum-remaining spent (s .waits) ∙ sum-zero (λ w. cond (not (leb (leftOf w) ms)) (spent (reduced ms w)) 0) (s .waits) left-some;
         late = λ h n b. omega (

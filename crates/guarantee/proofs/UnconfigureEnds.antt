@@ -78,6 +78,7 @@ module _ (s : State) where
     wired = omega arith;
     sends = λ f z. omega arith;
     waits = λ f z. omega (arith, sum-zero (begins f CEC-TX-STATUS-ABORTED) (pending s) (λ x. refl));
+    older = λ f z. omega arith;
     nearer = λ f z. omega arith;
     timed = refl;
     late = λ h n b. omega arith;
