@@ -12,3 +12,4 @@ pub mod Cases
 pub mod ByCases
 pub mod Keeps
 pub mod Brought
+pub mod Flow
