@@ -82,3 +82,7 @@ test-less false b = omega arith
 pub sending-less : (q : Transmission → Bool) (h n : ℕ) (s : State) → sendingAs q h n s ≤ sending h n s
 unfolding sendingAs
 sending-less q h n s = sum-le (sentAs q h n) (sentAs always h n) (pending s) (λ t. test-less (isFrom h n t) (q t))
+
+pub waiting-less : (q : Wait → Bool) (h n : ℕ) (s : State) → waitingAs q h n s ≤ waiting h n s
+unfolding waitingAs
+waiting-less q h n s = sum-le (awaitedAs q h n) (awaitedAs always h n) (s .waits) (λ w. test-less (isOf h n w) (q w))

@@ -13,3 +13,7 @@ pub mod ByCases
 pub mod Keeps
 pub mod Brought
 pub mod Flow
+pub mod Totals
+pub mod Parts
+pub mod Began
+pub mod Fate

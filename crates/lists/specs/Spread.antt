@@ -47,9 +47,9 @@ module _ (f : ℕ → ℕ) where
   upto-none zero e = refl
   upto-none (suc k) e = omega (arith, upto-none k (λ g l. e g (omega arith)), e k (omega arith))
 
-  pub upto-one : (h k : ℕ) → h < k → ((g : ℕ) → g ≢ h → f g ≡ 0) → upto f k ≡ f h
+  pub upto-one : (h k : ℕ) → h < k → ((g : ℕ) → g < k → g ≢ h → f g ≡ 0) → upto f k ≡ f h
   upto-one h zero l e = absurd (omega arith)
   upto-one h (suc k) l e =
       split (eqb h k)
-      (λ q. let p = eqb-true h k q in rw p (omega (arith, upto-none k (λ g m. e g (omega arith)))))
-      (λ q. omega (arith, e k (λ p. eqb-false h k q (sym p)), upto-one h k (omega (arith, eqb-false h k q)) e))
+      (λ q. let p = eqb-true h k q in rw p (omega (arith, upto-none k (λ g m. e g (omega arith) (omega arith)))))
+      (λ q. omega (arith, e k (omega arith) (λ p. eqb-false h k q (sym p)), upto-one h k (omega (arith, eqb-false h k q)) (λ g m n. e g (omega arith) n)))
