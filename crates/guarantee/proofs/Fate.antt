@@ -4,13 +4,13 @@ use Prim.Native.Nat.{ℕ, _+_, _-_, _≤_, _<_}
 use mathlib.Core.Bool.{Bool, true, false, cond}
 use mathlib.Core.List.{List, [], _∷_, _++_}
 use mathlib.Core.Logic.{_≢_}
-use mathlib.Core.Path.{_≡_, refl, ap, _∙_, sym}
+use mathlib.Core.Path.{_≡_, refl, ap, ap₂, _∙_, sym}
 use native.Mathlib.Omega.{arith}
 use lib.Dec.{eqb, ltb}
 use borrow.Author.Tests.{ltb-true, ltb-false, eqb-true, eqb-false}
 use Rattle.lists.specs.Pigeonhole.{upto}
 use Rattle.lists.specs.Spread.{upto-one}
-use Rattle.lists.specs.Sums.{sum, sum-append, count}
+use Rattle.lists.specs.Sums.{sum, sum-append, sum-le, count}
 use Rattle.lists.specs.Tests.{bit, split, clash}
 use Rattle.entry.specs.declared.Entry.{Entry}
 use Rattle.rules.specs.Call.{Call, Request}
@@ -28,11 +28,18 @@ use Rattle.guarantee.proofs.Flow.{Flow, flow, wanting, unwanting, longe
 use Rattle.guarantee.proofs.Invariant.{Inv}
 use Rattle.guarantee.proofs.Keeps.{keeps}
 use Rattle.guarantee.proofs.Parts.{Parted, parted, OwnParted, own-parted, own-after}
-use Rattle.guarantee.proofs.Totals.{nobody, own-results, all-results, placed-most, own-replies, all-replies, kept-results, kept-alike, kept-waits, kept-oks, kept}
+use Rattle.guarantee.proofs.Totals.{none-bit, nobody, own-results, all-results, placed-most, own-replies, all-replies, kept-results, kept-alike, kept-waits, kept-oks, kept}
 
 -- what comes to all handles is what comes to one, if nothing comes to the others
 one-handle : (p : Entry → Bool) (h : ℕ) (xs : List Step) → h < 8 → ((g : ℕ) → g < 8 → g ≢ h → cameTo p g xs ≡ 0) → cameToAny p xs ≡ cameTo p h xs
 one-handle p h xs l e = omega (arith, upto-one (λ g. cameTo p g xs) h 8 l e)
+
+no-handle : (p : Entry → Bool) (xs : List Step) → ((g : ℕ) → g < 8 → cameTo p g xs ≡ 0) → cameToAny p xs ≡ 0
+no-handle p xs e = omega (arith, upto-one (λ g. cameTo p g xs) 0 8 (omega arith) (λ g l _. e g l), e 0 (omega arith))
+
+-- what comes with one step of a history comes with the history
+one-step : (p : Entry → Bool) (xs : List Step) (y : Step) (ys : List Step) → cameToAny p (y ∷ []) ≤ cameToAny p (xs ++ y ∷ ys)
+one-step p xs y ys = sum-le (λ g. cameTo p g (y ∷ [])) (λ g. cameTo p g (xs ++ y ∷ ys)) handleNumbers (λ g. omega (arith, sum-append (λ z. count p (came g z)) xs (y ∷ ys)))
 
 module _ (h : ℕ) (x : Request) (n : ℕ) (s : State) (r : Inv s) (b : Began h x n s) (cs : List Call) where
   others-results : (g : ℕ) → g < 8 → g ≢ h → cameTo (isResult n) g (own n (run s cs)) ≡ 0
@@ -89,9 +96,126 @@ module _ (h : ℕ) (x : Request) (n : ℕ) (s : State) (r : Inv s) (b : Began h 
       omega (arith, b .others g e))
 
   -- a reply needs a wait, and that a result with the OK bit
-  reply-after : (ds : List Call) (c : Call) (es : List Call) → count (gives n) (run s ds) ≡ 0 → 1 ≤ replies n (stepOf (after s ds) c ∷ []) → 1 ≤ okResults n (run s ds)
+  reply-after : (ds : List Call) (c : Call) → count (gives n) (run s ds) ≡ 0 → 1 ≤ replies n (stepOf (after s ds) c ∷ []) → 1 ≤ okResults n (run s ds)
   unfolding brought
-  reply-after ds c es z k =
+  reply-after ds c z k =
       let w : (g : ℕ) → (l : g < 8) → cameTo (isReplyEntry n) g (stepOf (after s ds) c ∷ []) ≤ waiting g n (after s ds) = λ g l. omega (arith, flow g n l (b .some) (after s ds) (kept s ds r) c .repliesOf) in
       let o = one-handle (isReplyEntry n) h (stepOf (after s ds) c ∷ []) (b .home) (λ g l e. omega (arith, w g l, still-others ds z g l e .1)) in
       omega (arith, w h (b .home), past-oks ds z, kept-waits h n (b .home) (b .some) s ds r, b .quiet h)
+
+  -- a transmit that asked for no reply has none
+  reply-asked : (past : List Step) (y : Step) (rest : List Step) → own n (run s cs) ≡ past ++ y ∷ rest → 1 ≤ replies n (y ∷ []) → wantsReply x ≡ true
+  reply-asked past y rest e k =
+      split (wantsReply x)
+      (λ w. w)
+      (λ w. absurd (omega (
+        arith,
+        one-step (isReplyEntry n) past y rest,
+        ap (replies n) e,
+        replies-here,
+        own-replies h n (b .home) (b .some) s cs r,
+        b .quiet h,
+        b .unasked w,
+      )))
+
+  -- ---- a close of the handle at the call c: nothing comes with it, and nothing afterwards
+  module _ (ds : List Call) (c : Call) (es : List Call) (z : count (gives n) (run s ds) ≡ 0) (k : doneBy (isClose h c) (step (after s ds) c .answer) ≡ true) where
+    closed-results : (g : ℕ) → g < 8 → cameTo (isResult n) g (own n (run (after s ds) (c ∷ es))) ≡ 0
+    unfolding brought
+    closed-results g l =
+        let u = after s ds in
+        let v = kept s ds r in
+        split (eqb g h)
+        (λ q.
+        let p = eqb-true g h q in
+        let f = flow h n (b .home) (b .some) u v c in
+        let a = own-results h n (b .home) (b .some) (step u c .state) es (keeps u c v) in
+        rw p (split (givesTo n (step u c .answer))
+        (λ e. rw e (omega (arith, f .closing k .2)))
+        (λ e. rw e (omega (arith, f .closing k .0, f .closing k .2)))))
+        (λ q. omega (arith, own-results g n l (b .some) u (c ∷ es) v, still-others ds z g l (eqb-false g h q) .0))
+
+    closed-replies : (g : ℕ) → g < 8 → cameTo (isReplyEntry n) g (own n (run (after s ds) (c ∷ es))) ≡ 0
+    unfolding brought
+    closed-replies g l =
+        let u = after s ds in
+        let v = kept s ds r in
+        split (eqb g h)
+        (λ q.
+        let p = eqb-true g h q in
+        let f = flow h n (b .home) (b .some) u v c in
+        let a = own-replies h n (b .home) (b .some) (step u c .state) es (keeps u c v) in
+        let w = sending-less wanting h n (step u c .state) in
+        rw p (split (givesTo n (step u c .answer))
+        (λ e. rw e (omega (arith, f .closing k .3)))
+        (λ e. rw e (omega (arith, f .closing k .0, f .closing k .1, f .closing k .3)))))
+        (λ q. omega (arith, own-replies g n l (b .some) u (c ∷ es) v, still-others ds z g l (eqb-false g h q) .0, still-others ds z g l (eqb-false g h q) .1, sending-less wanting g n u))
+
+  -- ---- a result with the OK bit at the call c, and time enough after it
+  module _ (ds : List Call) (c : Call) (es : List Call) where
+    abbrev before : State
+    before = after s ds
+
+    abbrev then : State
+    then = step before c .state
+
+    reply-comes : count (gives n) (run s ds) ≡ 0 → 1 ≤ okResults n (stepOf before c ∷ []) → wantsReply x ≡ true → closings h (run s ds ++ stepOf before c ∷ run then es) ≡ 0 → timeoutOf x ≤ elapsed (run then es)
+        → cameTo (isReplyEntry n) h (own n (run s ds ++ stepOf before c ∷ run then es)) ≡ 1
+    unfolding brought
+    reply-comes z o w k t =
+        let l = b .home in
+        let d = b .some in
+        let v = kept s ds r in
+        let f = flow h n l d before v c in
+        let ok = one-handle (isOkResult n) h (stepOf before c ∷ []) l (others-ok ds z c) in
+        let less = ok-less n h before c (step before c) in
+        let kr = kept-results h n l d s ds r z in
+        let kw = kept-waits h n l d s ds r in
+        let ko = kept-oks h n l d s ds in
+        let ku = kept-alike h n l d unwanting s ds r z in
+        let kt = kept-alike h n l d (longer (timeoutOf x)) s ds r z in
+        let cl = sum-append (λ y. bit (closes h y)) (run s ds) (stepOf before c ∷ run then es) in
+        let cc = none-bit (doneBy (isClose h c) (step before c .answer)) (omega arith) in
+        rw (own-after n (run s ds) (stepOf before c ∷ run then es) z)
+        (split (givesTo n (step before c .answer))
+        (λ e. absurd (omega (arith, f .given e .0, f .resultsOf)))
+        (λ e. rw e (
+        let wl = waiting-less (later (timeoutOf x)) h n before in
+        let fr = f .results e in
+        let fo = f .resultsOf in
+        let fp = f .repliesOf in
+        let fq = f .replies in
+        let fa = f .allReplies cc in
+        let al = all-replies h n l d then es (timeoutOf x - milliseconds c) (keeps before c v) (omega (arith, b .one)) (omega (arith, f .time (timeoutOf x), b .timeout, b .quiet h, b .one)) (omega arith) (omega arith) in
+        omega (
+          arith,
+          b .one,
+          b .quiet h,
+          b .asked w,
+          sum-append (λ y. count (isReplyEntry n) (came h y)) (run s ds) (stepOf before c ∷ own n (run then es)),
+        ))))
+
+  -- ---- all of it
+  pub fate : Fate h x n (run s cs)
+  fate = record {
+    oneResultAtMost = result-once;
+    oneResult = result-comes;
+    oneReplyAtMost = reply-once;
+    replyAfterResult = λ past y rest e k.
+        let p = own-parted n s cs past y rest e in
+        (reply-asked past y rest e k, omega (arith, ap (okResults n) (p .ran), reply-after (p .before) (p .call) (p .ungiven) (rw (p .here) at k)));
+    oneReply = λ past y rest e g o w k t.
+        let p = parted s cs past y rest e in
+        let all : past ++ y ∷ rest ≡ run s (p .before) ++ stepOf (after s (p .before)) (p .call) ∷ run (step (after s (p .before)) (p .call) .state) (p .later) = ap₂ _++_ (p .ran) (ap₂ _∷_ (p .here) (p .runs)) in
+        replies-here
+        ∙ ap (λ (ys : List Step). cameTo (isReplyEntry n) h (own n ys)) (e ∙ all)
+        ∙ reply-comes (p .before) (p .call) (p .later) (rw (p .ran) at g) (rw (p .here) at o) w (sym (ap (closings h) (e ∙ all)) ∙ k) (rw (p .runs) at t);
+    ownHandle = nothing-else;
+    neverAfterClose = λ past y rest e k.
+        let p = own-parted n s cs past y rest e in
+        let c = rw (p .here) at k in
+        let u = own n (run (after s (p .before)) (p .call ∷ p .later)) in
+        let a = closed-results (p .before) (p .call) (p .later) (p .ungiven) c in
+        let b = closed-replies (p .before) (p .call) (p .later) (p .ungiven) c in
+        (ap (results n) (p .runs) ∙ no-handle (isResult n) u a, ap (replies n) (p .runs) ∙ no-handle (isReplyEntry n) u b);
+  }

@@ -29,7 +29,7 @@ use Rattle.guarantee.proofs.Flow.{Flow, flow, wanting, unwanting, longe
 use Rattle.guarantee.proofs.Invariant.{Inv, spent, few-pending}
 use Rattle.guarantee.proofs.Keeps.{keeps}
 
-none-bit : (b : Bool) → bit b ≡ 0 → b ≡ false
+pub none-bit : (b : Bool) → bit b ≡ 0 → b ≡ false
 none-bit true e = absurd (omega arith)
 none-bit false e = refl
 
