@@ -17,3 +17,5 @@ pub mod Totals
 pub mod Parts
 pub mod Began
 pub mod Fate
+pub mod Since
+pub mod Proved

@@ -70,3 +70,10 @@ own-after n (x ∷ xs) ys e =
     split (gives n x)
     (λ g. absurd (omega (arith, ap bit g)))
     (λ g. rw (g, own-after n xs ys (omega arith)))
+
+-- the state after the last step is the state after all calls
+pub last-after : (s : State) (cs : List Call) (past : List Step) (x : Step) → run s cs ≡ past ++ x ∷ [] → x .after ≡ after s cs
+last-after s [] past x e = absurd (empty-not past x [] e)
+last-after s (c ∷ []) [] x e = ap (λ (y : Step). y .after) (sym (heads (stepOf s c) x [] [] e .0))
+last-after s (c ∷ (k ∷ cs)) [] x e = absurd (let z = ap length e in omega arith)
+last-after s (c ∷ cs) (y ∷ past) x e = last-after (step s c .state) cs past x (heads (stepOf s c) y (run (step s c .state) cs) (past ++ x ∷ []) e .1)
