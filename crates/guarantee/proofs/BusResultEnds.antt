@@ -57,7 +57,7 @@ module _ (s : State) (x : Transmission) (r : Inv s) (w : s .wire ≡ x ∷ []) w
   wire-proper = omega (arith, on-wire improper, r .transmissions)
 
   -- there is a place for its wait
-  wait-fits : x .«wants_reply» ≡ true → length (s .waits) < 32
+  pub wait-fits : x .«wants_reply» ≡ true → length (s .waits) < 32
   wait-fits e = omega (arith, few s r, on-wire (λ t. bit (t .«wants_reply»)), ap bit e)
 
   -- the waits afterwards

@@ -19,3 +19,4 @@ pub mod Began
 pub mod Fate
 pub mod Since
 pub mod Proved
+pub mod RoomProved

@@ -32,7 +32,7 @@ use Rattle.guarantee.proofs.Invariant.{Inv, spent}
 module _ (ms : ℕ) where
 
   -- a wait ends or goes on
-  sum-time : (f : Wait → ℕ) → Timeless f → (ws : List Wait) → sum f (remaining ms ws) + sum f (overdue ms ws) ≡ sum f ws
+  pub sum-time : (f : Wait → ℕ) → Timeless f → (ws : List Wait) → sum f (remaining ms ws) + sum f (overdue ms ws) ≡ sum f ws
   sum-time f same ws =
       let over = keep (λ w. leb (leftOf w) ms) ws in
       let rest = keep (λ w. not (leb (leftOf w) ms)) ws in
