@@ -1,14 +1,12 @@
 -- The state that a transmit leads to which is accepted and queued: it alone carries its number, as it was asked for.
 -- Assumes nothing.
-use Prim.Native.Nat.{ℕ, _+_, _≤_, _<_}
-use mathlib.Core.Bool.{Bool, true, false, cond, _&&_, not}
-use mathlib.Core.List.{List, [], _∷_, _++_}
+use Prim.Native.Nat.{ℕ, _<_}
+use mathlib.Core.Bool.{Bool, true, false}
+use mathlib.Core.List.{[], _∷_, _++_}
 use mathlib.Core.Logic.{_≢_}
 use mathlib.Core.Path.{_≡_, refl, ap, _∙_, sym}
 use native.Mathlib.Omega.{arith}
-use lib.Dec.{eqb, ltb}
 use borrow.Author.Tests.{ne-eqb, le-ltb}
-use Rattle.lists.specs.Sums.{sum}
 use Rattle.lists.specs.Tests.{bit, eqb-refl}
 use Rattle.rules.specs.Call.{Request, accepted, callTransmit}
 use Rattle.rules.specs.Handles.{isOpen}
@@ -18,11 +16,11 @@ use Rattle.rules.specs.Step.{step}
 use Rattle.rules.specs.Transmit.{transmissionOf, wantsReply, timeoutOf}
 use Rattle.rules.proofs.Accepted.{transmit-queued}
 use Rattle.transmission.specs.declared.Transmission.{Transmission}
-use Rattle.guarantee.proofs.Carried.{isFrom, sentAs, always, sendingAs, waitingAs, sending, waiting, unused, sending-less}
+use Rattle.guarantee.proofs.Carried.{sentAs, always, sendingAs, waitingAs, sending, waiting, unused, sending-less}
 use Rattle.guarantee.proofs.Cases.{enqueued}
 use Rattle.guarantee.proofs.Flow.{wanting, unwanting, longer}
 use Rattle.guarantee.proofs.Invariant.{Inv, open-below, next-unused, next-some}
-use Rattle.guarantee.proofs.Keeps.{keeps, sum-queued}
+use Rattle.guarantee.proofs.QueuedKept.{sum-queued}
 
 pub record Began (h : ℕ) (x : Request) (n : ℕ) (s : State) : Type 0 where
   pub home : h < 8

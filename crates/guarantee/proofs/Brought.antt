@@ -1,15 +1,15 @@
 -- The entries of a number that come to a handle with a call: results of the transmissions that end, replies of the waits that end.
 -- Assumes nothing.
 use Prim.Native.Nat.{ℕ, _+_, _-_, _≤_, _<_}
-use mathlib.Core.Bool.{Bool, true, false, cond, _&&_, _||_, not}
-use mathlib.Core.List.{List, [], _∷_, _++_, map}
+use mathlib.Core.Bool.{Bool, true, false, cond, _&&_}
+use mathlib.Core.List.{List, map}
 use mathlib.Core.Logic.{_≢_}
 use mathlib.Core.Path.{_≡_, refl, ap, _∙_, sym}
 use native.Mathlib.Omega.{arith}
 use lib.Dec.{eqb}
-use lib.ListN.{length, drop}
+use lib.ListN.{length}
 use lib.Seq.{drop-append-seam}
-use borrow.Author.Tests.{eqb-true, ne-eqb}
+use borrow.Author.Tests.{ne-eqb}
 use Rattle.constants.specs.Kernel.{CEC-TX-STATUS-OK}
 use Rattle.lists.specs.Sums.{sum, sum-append, sum-map, sum-keep, sum-same, sum-zero, sum-le, count, keep}
 use Rattle.lists.specs.Tests.{bit, split, and-false, and-true}
@@ -18,16 +18,15 @@ use Rattle.inbox.specs.Inboxes.{inboxOf}
 use Rattle.rules.specs.Call.{Call, Outcome, finish, done}
 use Rattle.rules.specs.Handles.{hasBit}
 use Rattle.rules.specs.State.{State}
-use Rattle.rules.proofs.Entries.{Shows}
 use Rattle.rules.proofs.Mail.{Numbered}
 use Rattle.transmission.specs.declared.Transmission.{Transmission}
 use Rattle.wait.specs.Wait.{ownedBy}
 use Rattle.wait.specs.declared.Wait.{Wait}
-use Rattle.guarantee.specs.Seen.{came, isClose, isResult, isReplyEntry, isOkResult}
-use Rattle.guarantee.proofs.Carried.{isFrom, sentAs, awaitedAs, always}
+use Rattle.guarantee.specs.Seen.{came, isResult, isReplyEntry, isOkResult}
+use Rattle.guarantee.proofs.Carried.{sentAs, awaitedAs, always}
 use Rattle.guarantee.proofs.Cases.{stepFrom, Silent}
 use Rattle.guarantee.proofs.Comes.{entriesTo}
-use Rattle.guarantee.proofs.Ends.{Ends, Replies}
+use Rattle.guarantee.proofs.Ends.{Ends}
 
 -- how many entries of a kind come to handle h
 unfoldable pub brought : (Entry → Bool) → ℕ → State → Call → Outcome → ℕ

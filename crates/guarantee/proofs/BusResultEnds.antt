@@ -1,7 +1,7 @@
 -- A bus result ends the transmission on the wire; with the OK bit, and if a reply is wanted, its wait begins.
 -- Assumes nothing.
 use Prim.Native.Nat.{ℕ, _+_, _-_, _≤_, _<_}
-use mathlib.Core.Bool.{Bool, true, false, cond, _&&_, not}
+use mathlib.Core.Bool.{true, cond, _&&_}
 use mathlib.Core.List.{List, [], _∷_, _++_, map, append-nil}
 use mathlib.Core.Logic.{_≢_}
 use mathlib.Core.Path.{_≡_, refl, ap, _∙_, sym}
@@ -13,11 +13,9 @@ use Rattle.constants.specs.Kernel.{CEC-TX-STATUS-OK}
 use Rattle.lists.specs.Last.{last, last-more, last-tail}
 use Rattle.lists.specs.Sums.{sum, sum-append, count}
 use Rattle.lists.specs.Tests.{bit, split, both}
-use Rattle.lists.specs.Vector.{put}
 use Rattle.entry.specs.Entry.{result, resultCopy, timedOut}
 use Rattle.entry.specs.declared.Counts.{Counts}
 use Rattle.entry.specs.declared.Entry.{Entry}
-use Rattle.inbox.specs.Inboxes.{inboxOf}
 use Rattle.rules.specs.BusResult.{concluded, begun, waitFor}
 use Rattle.rules.specs.Call.{callBusResult}
 use Rattle.rules.specs.Deliver.{copies}
@@ -30,10 +28,10 @@ use Rattle.transmission.specs.Transmission.{ownerless, roomFor}
 use Rattle.transmission.specs.declared.Transmission.{Transmission}
 use Rattle.wait.specs.Wait.{ownedBy}
 use Rattle.wait.specs.declared.Wait.{Wait}
-use Rattle.guarantee.proofs.Carried.{isFrom, sentAs, awaitedAs, waitingAs}
+use Rattle.guarantee.proofs.Carried.{sentAs, awaitedAs, waitingAs}
 use Rattle.guarantee.proofs.Comes.{comes}
 use Rattle.guarantee.proofs.Ends.{Ends, begins, shown-reply}
-use Rattle.guarantee.proofs.Invariant.{Inv, isProper, improper, improperWait, spent, few}
+use Rattle.guarantee.proofs.Invariant.{Inv, improper, improperWait, spent, few}
 
 -- the wait of a proper transmission has a handle, a number and time left
 pub wait-proper : (x : Transmission) → improper x ≡ 0 → x .«wants_reply» ≡ true → (spent (waitFor x) ≡ 0) × (improperWait (waitFor x) ≡ 0)

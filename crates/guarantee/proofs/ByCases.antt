@@ -1,14 +1,14 @@
 -- Every step is one of the cases. Only this file opens the definitions of the calls.
 -- Assumes nothing.
 use Prim.Native.Nat.{ℕ, _≤_, _<_}
-use mathlib.Core.Bool.{Bool, true, false, cond, _&&_, not}
-use mathlib.Core.List.{List, [], _∷_, _++_}
+use mathlib.Core.Bool.{Bool, true, false, _&&_, not}
+use mathlib.Core.List.{List, [], _∷_}
 use mathlib.Core.Logic.{_≢_}
-use mathlib.Core.Path.{_≡_, refl, ap, _∙_, sym}
+use mathlib.Core.Path.{_≡_, refl}
 use native.Mathlib.Omega.{arith}
 use lib.Dec.{eqb, ltb}
 use lib.ListN.{length, getD, set, drop, length-set}
-use borrow.Author.Tests.{eqb-true, eqb-false, ltb-true, not-true, not-false, lt-ltb}
+use borrow.Author.Tests.{eqb-true, eqb-false, not-true, not-false, lt-ltb}
 use Rattle.constants.specs.Kernel.{EBADF, EMFILE, EAGAIN, EBUSY, EINVAL, CEC-TX-STATUS-NACK, CEC-PHYS-ADDR-INVALID}
 use Rattle.lists.specs.Elements.{set-rel}
 use Rattle.lists.specs.Places.{first-le, first-passes}
@@ -22,8 +22,8 @@ use Rattle.handle.specs.declared.Handle.{Handle}
 use Rattle.inbox.specs.Inboxes.{inboxOf}
 use Rattle.rules.specs.BusResult.{doBusResult, isFinal, keptCounts, concluded}
 use Rattle.rules.specs.BusStart.{doBusStart}
-use Rattle.rules.specs.Call.{Call, Request, Answer, Outcome, finish, unless, check, refused, done, accepted, received, started, listed, address, callOpen, callClose, callMode, callTransmit, callReceive, callBusStart, callBusResult, callMessage, callTime, callConfigure, callUnconfigure, callListing, callLookup}
-use Rattle.rules.specs.Close.{doClose, closeRefusal}
+use Rattle.rules.specs.Call.{Call, Request, Answer, Outcome, finish, unless, refused, done, accepted, received, started, listed, address, callOpen, callClose, callMode, callTransmit, callReceive, callBusStart, callBusResult, callMessage, callTime, callConfigure, callUnconfigure, callListing, callLookup}
+use Rattle.rules.specs.Close.{doClose}
 use Rattle.rules.specs.Configure.{doConfigure, keptSettings}
 use Rattle.rules.specs.Handles.{handleAt, isOpen}
 use Rattle.rules.specs.Incoming.{doMessage}
@@ -36,7 +36,7 @@ use Rattle.rules.specs.Receive.{doReceive}
 use Rattle.rules.specs.State.{State, closedHandle, withHandles, withInboxes, withQueue, withWire, withSettings}
 use Rattle.rules.specs.Step.{step}
 use Rattle.rules.specs.Time.{doTime}
-use Rattle.rules.specs.Transmit.{doTransmit, transmitRefusal, isSelfPoll, polled, queued}
+use Rattle.rules.specs.Transmit.{doTransmit, isSelfPoll, polled, queued}
 use Rattle.rules.specs.Unconfigure.{doUnconfigure}
 use Rattle.rules.proofs.Accepted.{Roomy, all-passed}
 use Rattle.rules.proofs.Checks.{passed}

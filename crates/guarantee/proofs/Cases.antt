@@ -1,20 +1,19 @@
 -- The cases of a call, for all laws: a law over a call and its outcome holds of every step if it holds of each of these.
 -- Assumes nothing.
 use Prim.Native.Nat.{ℕ, _+_, _-_, _≤_, _<_}
-use mathlib.Core.Bool.{Bool, true, false, cond, _&&_, _||_, not}
+use mathlib.Core.Bool.{Bool, true, false, _||_}
 use mathlib.Core.List.{List, [], _∷_, _++_}
-use mathlib.Core.Logic.{_≢_}
-use mathlib.Core.Path.{_≡_, refl, ap, _∙_, sym}
+use mathlib.Core.Path.{_≡_, refl, sym}
 use native.Mathlib.Omega.{arith}
-use lib.Dec.{eqb, ltb}
-use lib.ListN.{length, getD, set, drop}
+use lib.Dec.{eqb}
+use lib.ListN.{length, getD, set}
 use lib.Seq.{getD-set-same, getD-set-other, drop-length}
 use borrow.Author.Tests.{eqb-true, eqb-false}
 use Rattle.lists.specs.Tests.{bit, split}
 use Rattle.entry.specs.declared.Entry.{Entry}
 use Rattle.handle.specs.declared.Handle.{Handle}
 use Rattle.inbox.specs.Inboxes.{inboxOf}
-use Rattle.rules.specs.Call.{Call, Request, Answer, Outcome, finish, refused, done, opened, accepted, received, started, callOpen, callClose, callTransmit, callReceive, callBusStart}
+use Rattle.rules.specs.Call.{Call, Request, Answer, Outcome, finish, done, opened, accepted, received, started, callOpen, callClose, callTransmit, callReceive, callBusStart}
 use Rattle.rules.specs.Close.{closed}
 use Rattle.rules.specs.Handles.{isOpen}
 use Rattle.rules.specs.Number.{nextNumber}
@@ -27,7 +26,6 @@ use Rattle.settings.specs.declared.Settings.{Settings}
 use Rattle.transmission.specs.declared.Transmission.{Transmission}
 use Rattle.guarantee.specs.Seen.{came, gave, opens, closes, opensTo, givesTo, givenBy, doneBy, isClose, isReceive, isBusResult, milliseconds}
 use Rattle.guarantee.proofs.Ends.{Ends}
-use Rattle.guarantee.proofs.Invariant.{Inv}
 
 abbrev pub stepFrom : State → Call → Outcome → Step
 stepFrom s c o = record { before = s; call = c; answer = o .answer; after = o .state }

@@ -1,14 +1,13 @@
 -- What a call does that ends transmissions and waits: a bus result, a message from the wire, time passing and an unconfigure.
 -- Assumes nothing.
 use Prim.Native.Nat.{ℕ, _+_, _-_, _≤_, _<_}
-use mathlib.Core.Bool.{Bool, true, false, cond, _&&_}
-use mathlib.Core.List.{List, [], _∷_, _++_, map}
+use mathlib.Core.Bool.{false, cond, _&&_}
+use mathlib.Core.List.{List, [], map}
 use mathlib.Core.Logic.{_≢_}
-use mathlib.Core.Path.{_≡_, refl, ap, _∙_, sym}
+use mathlib.Core.Path.{_≡_, _∙_, sym}
 use native.Mathlib.Omega.{arith}
-use lib.Dec.{eqb, ltb}
+use lib.Dec.{ltb}
 use lib.ListN.{length}
-use borrow.Author.Tests.{ne-eqb}
 use Rattle.constants.specs.Kernel.{CEC-TX-STATUS-OK}
 use Rattle.lists.specs.Last.{last, last-more}
 use Rattle.lists.specs.Sums.{sum}
@@ -27,7 +26,7 @@ use Rattle.transmission.specs.declared.Transmission.{Transmission}
 use Rattle.wait.specs.Wait.{reduced}
 use Rattle.wait.specs.declared.Wait.{Wait}
 use Rattle.guarantee.specs.Seen.{isClose, isBusResult, milliseconds}
-use Rattle.guarantee.proofs.Carried.{isFrom, sentAs, waitingAs}
+use Rattle.guarantee.proofs.Carried.{sentAs, waitingAs}
 use Rattle.guarantee.proofs.Comes.{Comes, entriesTo, comes-aside}
 use Rattle.guarantee.proofs.Invariant.{Inv, spent}
 

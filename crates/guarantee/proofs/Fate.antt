@@ -1,17 +1,16 @@
 -- What becomes of a transmit that is accepted and queued, over any calls after it.
 -- Assumes nothing.
-use Prim.Native.Nat.{ℕ, _+_, _-_, _≤_, _<_}
-use mathlib.Core.Bool.{Bool, true, false, cond}
+use Prim.Native.Nat.{ℕ, _-_, _≤_, _<_}
+use mathlib.Core.Bool.{Bool, true}
 use mathlib.Core.List.{List, [], _∷_, _++_}
 use mathlib.Core.Logic.{_≢_}
-use mathlib.Core.Path.{_≡_, refl, ap, ap₂, _∙_, sym}
+use mathlib.Core.Path.{_≡_, ap, ap₂, _∙_, sym}
 use native.Mathlib.Omega.{arith}
 use lib.Dec.{eqb, ltb}
 use borrow.Author.Tests.{ltb-true, ltb-false, eqb-true, eqb-false}
-use Rattle.lists.specs.Pigeonhole.{upto}
 use Rattle.lists.specs.Spread.{upto-one}
-use Rattle.lists.specs.Sums.{sum, sum-append, sum-le, count}
-use Rattle.lists.specs.Tests.{bit, split, clash}
+use Rattle.lists.specs.Sums.{sum-append, sum-le, count}
+use Rattle.lists.specs.Tests.{bit, split}
 use Rattle.entry.specs.declared.Entry.{Entry}
 use Rattle.rules.specs.Call.{Call, Request}
 use Rattle.rules.specs.Cases.{after}
@@ -23,12 +22,13 @@ use Rattle.guarantee.specs.Claim.{Fate}
 use Rattle.guarantee.specs.Seen.{came, closes, gives, givesTo, doneBy, isClose, milliseconds, isResult, isReplyEntry, isOkResult, cameTo, cameToAny, results, okResults, replies, busResults, closings, elapsed, own}
 use Rattle.guarantee.proofs.Began.{Began}
 use Rattle.guarantee.proofs.Brought.{brought, ok-less}
-use Rattle.guarantee.proofs.Carried.{always, sendingAs, waitingAs, sending, waiting, sending-less, waiting-less}
-use Rattle.guarantee.proofs.Flow.{Flow, flow, wanting, unwanting, longer, later}
+use Rattle.guarantee.proofs.Carried.{sending, waiting, sending-less, waiting-less}
+use Rattle.guarantee.proofs.Flow.{wanting, unwanting, longer, later}
+use Rattle.guarantee.proofs.Flows.{flow}
 use Rattle.guarantee.proofs.Invariant.{Inv}
 use Rattle.guarantee.proofs.Keeps.{keeps}
-use Rattle.guarantee.proofs.Parts.{Parted, parted, OwnParted, own-parted, own-after}
-use Rattle.guarantee.proofs.Totals.{none-bit, nobody, own-results, all-results, placed-most, own-replies, all-replies, kept-results, kept-alike, kept-waits, kept-oks, kept}
+use Rattle.guarantee.proofs.Parts.{parted, own-parted, own-after}
+use Rattle.guarantee.proofs.Totals.{none-bit, nobody, own-results, all-results, placed-most, own-replies, all-replies, closed-results, closed-replies, kept-results, kept-alike, kept-waits, kept-oks, kept}
 
 -- what comes to all handles is what comes to one, if nothing comes to the others
 one-handle : (p : Entry → Bool) (h : ℕ) (xs : List Step) → h < 8 → ((g : ℕ) → g < 8 → g ≢ h → cameTo p g xs ≡ 0) → cameToAny p xs ≡ cameTo p h xs
@@ -120,36 +120,17 @@ module _ (h : ℕ) (x : Request) (n : ℕ) (s : State) (r : Inv s) (b : Began h 
 
   -- ---- a close of the handle at the call c: nothing comes with it, and nothing afterwards
   module _ (ds : List Call) (c : Call) (es : List Call) (z : count (gives n) (run s ds) ≡ 0) (k : doneBy (isClose h c) (step (after s ds) c .answer) ≡ true) where
-    closed-results : (g : ℕ) → g < 8 → cameTo (isResult n) g (own n (run (after s ds) (c ∷ es))) ≡ 0
-    unfolding brought
-    closed-results g l =
-        let u = after s ds in
-        let v = kept s ds r in
+    no-result : (g : ℕ) → g < 8 → cameTo (isResult n) g (own n (run (after s ds) (c ∷ es))) ≡ 0
+    no-result g l =
         split (eqb g h)
-        (λ q.
-        let p = eqb-true g h q in
-        let f = flow h n (b .home) (b .some) u v c in
-        let a = own-results h n (b .home) (b .some) (step u c .state) es (keeps u c v) in
-        rw p (split (givesTo n (step u c .answer))
-        (λ e. rw e (omega (arith, f .closing k .2)))
-        (λ e. rw e (omega (arith, f .closing k .0, f .closing k .2)))))
-        (λ q. omega (arith, own-results g n l (b .some) u (c ∷ es) v, still-others ds z g l (eqb-false g h q) .0))
+        (λ q. rw (eqb-true g h q) (closed-results h n (b .home) (b .some) (after s ds) c es (kept s ds r) k))
+        (λ q. omega (arith, own-results g n l (b .some) (after s ds) (c ∷ es) (kept s ds r), still-others ds z g l (eqb-false g h q) .0))
 
-    closed-replies : (g : ℕ) → g < 8 → cameTo (isReplyEntry n) g (own n (run (after s ds) (c ∷ es))) ≡ 0
-    unfolding brought
-    closed-replies g l =
-        let u = after s ds in
-        let v = kept s ds r in
+    no-reply : (g : ℕ) → g < 8 → cameTo (isReplyEntry n) g (own n (run (after s ds) (c ∷ es))) ≡ 0
+    no-reply g l =
         split (eqb g h)
-        (λ q.
-        let p = eqb-true g h q in
-        let f = flow h n (b .home) (b .some) u v c in
-        let a = own-replies h n (b .home) (b .some) (step u c .state) es (keeps u c v) in
-        let w = sending-less wanting h n (step u c .state) in
-        rw p (split (givesTo n (step u c .answer))
-        (λ e. rw e (omega (arith, f .closing k .3)))
-        (λ e. rw e (omega (arith, f .closing k .0, f .closing k .1, f .closing k .3)))))
-        (λ q. omega (arith, own-replies g n l (b .some) u (c ∷ es) v, still-others ds z g l (eqb-false g h q) .0, still-others ds z g l (eqb-false g h q) .1, sending-less wanting g n u))
+        (λ q. rw (eqb-true g h q) (closed-replies h n (b .home) (b .some) (after s ds) c es (kept s ds r) k))
+        (λ q. omega (arith, own-replies g n l (b .some) (after s ds) (c ∷ es) (kept s ds r), still-others ds z g l (eqb-false g h q) .0, still-others ds z g l (eqb-false g h q) .1, sending-less wanting g n (after s ds)))
 
   -- ---- a result with the OK bit at the call c, and time enough after it
   module _ (ds : List Call) (c : Call) (es : List Call) where
@@ -215,7 +196,7 @@ module _ (h : ℕ) (x : Request) (n : ℕ) (s : State) (r : Inv s) (b : Began h 
         let p = own-parted n s cs past y rest e in
         let c = rw (p .here) at k in
         let u = own n (run (after s (p .before)) (p .call ∷ p .later)) in
-        let a = closed-results (p .before) (p .call) (p .later) (p .ungiven) c in
-        let b = closed-replies (p .before) (p .call) (p .later) (p .ungiven) c in
+        let a = no-result (p .before) (p .call) (p .later) (p .ungiven) c in
+        let b = no-reply (p .before) (p .call) (p .later) (p .ungiven) c in
         (ap (results n) (p .runs) ∙ no-handle (isResult n) u a, ap (replies n) (p .runs) ∙ no-handle (isReplyEntry n) u b);
   }

@@ -2,15 +2,15 @@
 -- Assumes nothing.
 use Prim.Native.Nat.{ℕ, _+_, _≤_, _<_}
 use mathlib.Core.Bool.{Bool, true, false, cond, _&&_, _||_, not}
-use mathlib.Core.List.{List, [], _∷_, _++_}
+use mathlib.Core.List.{List, [], _∷_}
 use mathlib.Core.Logic.{_≢_}
-use mathlib.Core.Path.{_≡_, refl, sym, ap, _∙_}
+use mathlib.Core.Path.{_≡_, refl, ap}
 use native.Mathlib.Omega.{arith}
 use lib.Dec.{eqb, ltb, leb}
 use lib.ListN.{length, length-append, List·getD-eq-default}
 use borrow.Author.Tests.{ltb-true, ltb-false, leb-true, le-ltb}
 use Rattle.lists.specs.Pigeonhole.{upto}
-use Rattle.lists.specs.Spread.{spread, under, beyond}
+use Rattle.lists.specs.Spread.{spread}
 use Rattle.lists.specs.Sums.{sum, sum-le, sum-same, count}
 use Rattle.lists.specs.Tests.{bit, split, clash}
 use Rattle.handle.specs.declared.Handle.{Handle}

@@ -1,24 +1,22 @@
 -- A message from the wire ends the oldest wait that it matches, if there is one, with its reply.
 -- Assumes nothing.
 use Prim.Native.Nat.{ℕ, _+_, _-_, _≤_, _<_}
-use mathlib.Core.Bool.{Bool, true, false, cond, _&&_, not}
-use mathlib.Core.List.{List, [], _∷_, _++_, map}
-use mathlib.Core.Logic.{_≢_}
-use mathlib.Core.Path.{_≡_, refl, ap, _∙_, sym}
+use mathlib.Core.Bool.{true, false}
+use mathlib.Core.List.{List, [], _∷_, map}
+use mathlib.Core.Path.{_≡_, refl, _∙_}
 use native.Mathlib.Omega.{arith}
 use lib.Dec.{eqb, ltb}
 use lib.ListN.{length, getD, length-set}
 use borrow.Author.Tests.{ltb-true}
 use Rattle.constants.specs.Kernel.{CEC-MSG-FEATURE-ABORT}
-use Rattle.lists.specs.Last.{last, last-more}
+use Rattle.lists.specs.Last.{last-more}
 use Rattle.lists.specs.Places.{first, without, sum-without}
-use Rattle.lists.specs.Sums.{sum, count}
+use Rattle.lists.specs.Sums.{count}
 use Rattle.lists.specs.Tests.{bit, split}
 use Rattle.message.specs.Message.{opcode}
 use Rattle.message.specs.declared.Message.{Message}
 use Rattle.entry.specs.Entry.{noCounts, result, messageCopy}
 use Rattle.entry.specs.declared.Entry.{Entry}
-use Rattle.inbox.specs.Inboxes.{delivered}
 use Rattle.rules.specs.Call.{Call, callMessage}
 use Rattle.rules.specs.Core.{answers, notes}
 use Rattle.rules.specs.Deliver.{deliver, copies}
@@ -26,16 +24,15 @@ use Rattle.rules.specs.Handles.{inRole}
 use Rattle.rules.specs.Incoming.{heard, handled, stops, replied, replyEntry, followed, refusedMessage, monitors}
 use Rattle.rules.specs.Owed.{pending, roomOwed, owedRoom}
 use Rattle.rules.specs.State.{State, withWaits}
-use Rattle.rules.proofs.Aside.{Owned, Aside, aside-trans, aside-pending, aside-sum, core-weightless, room-owned, copies-aside, notes-aside, answers-aside, followed-aside, refusedMessage-aside}
+use Rattle.rules.proofs.Aside.{Aside, aside-trans, aside-pending, aside-sum, core-weightless, room-owned, copies-aside, notes-aside, answers-aside, followed-aside, refusedMessage-aside}
 use Rattle.rules.proofs.Entries.{result-shows, replyEntry-shows, messageCopy-shows}
 use Rattle.transmission.specs.Transmission.{ownerless, roomFor}
 use Rattle.transmission.specs.declared.Transmission.{Transmission}
 use Rattle.wait.specs.Wait.{noWait, answeredBy, ownedBy}
 use Rattle.wait.specs.declared.Wait.{Wait}
 use Rattle.waits.specs.Waits.{Taken, takenAt, matchTaken}
-use Rattle.guarantee.specs.Seen.{isBusResult, milliseconds}
 use Rattle.guarantee.proofs.Carried.{awaitedAs, waitingAs}
-use Rattle.guarantee.proofs.Comes.{comes, comes-then, entriesTo}
+use Rattle.guarantee.proofs.Comes.{comes, comes-then}
 use Rattle.guarantee.proofs.Ends.{Ends, Replies, shown-reply, aside-ends}
 use Rattle.guarantee.proofs.Invariant.{Inv, spent}
 

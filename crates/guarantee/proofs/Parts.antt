@@ -1,13 +1,12 @@
 -- Parts of a history: where it is taken apart at a step, the parts are histories too.
 -- Assumes nothing.
-use Prim.Native.Nat.{ℕ, _+_}
-use mathlib.Core.Bool.{Bool, true, false, cond}
+use Prim.Native.Nat.{ℕ}
 use mathlib.Core.List.{List, [], _∷_, _++_}
-use mathlib.Core.Path.{_≡_, refl, ap, ap₂, _∙_, sym}
+use mathlib.Core.Path.{_≡_, refl, ap, ap₂, sym}
 use native.Mathlib.Omega.{arith}
 use lib.ListN.{length, length-append}
-use Rattle.lists.specs.Sums.{sum, sum-append, count}
-use Rattle.lists.specs.Tests.{bit, split, clash}
+use Rattle.lists.specs.Sums.{count}
+use Rattle.lists.specs.Tests.{bit, split}
 use Rattle.rules.specs.Call.{Call}
 use Rattle.rules.specs.Cases.{after}
 use Rattle.rules.specs.State.{State}

@@ -1,13 +1,13 @@
 -- What came to an open handle since its last open is what its receives gave and then what its inbox holds.
 -- Assumes nothing.
-use Prim.Native.Nat.{ℕ, _+_, _-_, _≤_, _<_}
-use mathlib.Core.Bool.{Bool, true, false, cond, _||_}
+use Prim.Native.Nat.{ℕ, _<_}
+use mathlib.Core.Bool.{Bool, true, false}
 use mathlib.Core.List.{List, [], _∷_, _++_, append-assoc, append-nil}
 use mathlib.Core.Logic.{_≢_}
 use mathlib.Core.Path.{_≡_, refl, ap, _∙_, sym}
 use native.Mathlib.Omega.{arith}
 use lib.Dec.{eqb}
-use lib.ListN.{length, getD, set}
+use lib.ListN.{length, set}
 use lib.Seq.{getD-set-same, getD-set-other}
 use borrow.Author.Tests.{eqb-true, eqb-false}
 use Rattle.lists.specs.Sums.{any}
@@ -20,9 +20,8 @@ use Rattle.rules.specs.Cases.{after}
 use Rattle.rules.specs.Close.{closed}
 use Rattle.rules.specs.Handles.{isOpen}
 use Rattle.rules.specs.Open.{openedHandle}
-use Rattle.rules.specs.Owed.{roomTaken}
 use Rattle.rules.specs.State.{State, closedHandle, withHandles, withInboxes}
-use Rattle.rules.specs.Step.{Step, step, stepOf, run}
+use Rattle.rules.specs.Step.{step, stepOf, run}
 use Rattle.guarantee.specs.Seen.{came, gave, opens, opensTo, doneBy, isClose, sinceOpen, all}
 use Rattle.guarantee.proofs.Brought.{ended-came}
 use Rattle.guarantee.proofs.ByCases.{by-cases}

@@ -1,12 +1,11 @@
 -- Time passing ends the waits with no more left than that, with entries of their numbers.
 -- Assumes nothing.
-use Prim.Native.Nat.{ℕ, _+_, _-_, _≤_, _<_}
-use mathlib.Core.Bool.{Bool, true, false, cond, _&&_, not}
-use mathlib.Core.List.{List, [], _∷_, _++_, map}
-use mathlib.Core.Logic.{_≢_}
-use mathlib.Core.Path.{_≡_, refl, ap, _∙_, sym}
+use Prim.Native.Nat.{ℕ, _+_, _-_, _≤_}
+use mathlib.Core.Bool.{cond, not}
+use mathlib.Core.List.{List, []}
+use mathlib.Core.Path.{_≡_, refl, ap, _∙_}
 use native.Mathlib.Omega.{arith}
-use lib.Dec.{eqb, leb, ltb}
+use lib.Dec.{leb, ltb}
 use lib.ListN.{length}
 use borrow.Author.Tests.{ltb-false, leb-false, ne-eqb, le-ltb}
 use Rattle.lists.specs.Order.{sum-sort}
@@ -16,7 +15,7 @@ use Rattle.entry.specs.Entry.{noCounts, result, timedOut}
 use Rattle.entry.specs.declared.Entry.{Entry}
 use Rattle.rules.specs.Call.{callTime}
 use Rattle.rules.specs.Deliver.{each}
-use Rattle.rules.specs.Owed.{pending, roomOwed, owedRoom}
+use Rattle.rules.specs.Owed.{roomOwed, owedRoom}
 use Rattle.rules.specs.State.{State, withInboxes, withWaits}
 use Rattle.rules.specs.Time.{overdue, remaining, timeOut}
 use Rattle.rules.proofs.Aside.{aside-refl}

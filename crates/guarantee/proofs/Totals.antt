@@ -1,17 +1,17 @@
 -- Totals over the calls of a history, for a handle and a number: what the transmissions and waits at its start bring.
 -- Assumes nothing.
 use Prim.Native.Nat.{ℕ, _+_, _-_, _≤_, _<_}
-use mathlib.Core.Bool.{Bool, true, false, cond, _||_}
-use mathlib.Core.List.{List, [], _∷_, _++_}
+use mathlib.Core.Bool.{Bool, true, false, _||_}
+use mathlib.Core.List.{List, [], _∷_}
 use mathlib.Core.Logic.{_≢_}
-use mathlib.Core.Path.{_≡_, refl, ap, _∙_, sym}
+use mathlib.Core.Path.{_≡_, refl, ap}
 use native.Mathlib.Omega.{arith}
 use lib.Dec.{eqb}
-use lib.ListN.{length, getD, drop, List·getD-eq-default}
+use lib.ListN.{length, List·getD-eq-default}
 use lib.Seq.{drop-nil}
 use borrow.Author.Tests.{eqb-false, lt-ltb}
 use Rattle.lists.specs.Last.{last-none, last-le}
-use Rattle.lists.specs.Sums.{sum, sum-le, sum-plus, count}
+use Rattle.lists.specs.Sums.{sum-le, sum-plus, count}
 use Rattle.lists.specs.Tests.{bit, split}
 use Rattle.entry.specs.declared.Entry.{Entry}
 use Rattle.inbox.specs.Inboxes.{inboxOf}
@@ -25,7 +25,8 @@ use Rattle.wait.specs.declared.Wait.{Wait}
 use Rattle.guarantee.specs.Seen.{came, gave, opens, closes, gives, givesTo, doneBy, isClose, isResult, isReplyEntry, isOkResult, cameTo, busResults, closings, elapsed, own, milliseconds}
 use Rattle.guarantee.proofs.Brought.{brought, ok-less}
 use Rattle.guarantee.proofs.Carried.{isOf, sentAs, awaitedAs, always, sendingAs, waitingAs, sending, waiting, placed, sent-once, sending-less}
-use Rattle.guarantee.proofs.Flow.{Flow, flow, wanting, unwanting, longer, later}
+use Rattle.guarantee.proofs.Flow.{wanting, unwanting, longer, later}
+use Rattle.guarantee.proofs.Flows.{flow}
 use Rattle.guarantee.proofs.Invariant.{Inv, spent, few-pending}
 use Rattle.guarantee.proofs.Keeps.{keeps}
 
@@ -124,6 +125,22 @@ module _ (h n : ℕ) (l : h < 8) (d : n ≢ 0) where
       (λ e. rw e (
       let ih = all-replies (step s c .state) cs (b - milliseconds c) (keeps s c r) (omega (arith, f .results e)) (omega (arith, f .time b, sending-less (longer b) h n s)) (omega arith) (omega arith) in
       omega (arith, f .replies, f .allReplies k, f .resultsOf, sending-less unwanting h n s)))
+
+  -- after a close of the handle there are neither
+  pub closed-results : (s : State) (c : Call) (cs : List Call) → Inv s → doneBy (isClose h c) (step s c .answer) ≡ true → cameTo (isResult n) h (own n (run s (c ∷ cs))) ≡ 0
+  unfolding brought
+  closed-results s c cs r k =
+      let f = flow h n l d s r c .closing k in
+      let a = own-results (step s c .state) cs (keeps s c r) in
+      split (givesTo n (step s c .answer)) (λ e. rw e (omega (arith, f .2))) (λ e. rw e (omega (arith, f .0, f .2)))
+
+  pub closed-replies : (s : State) (c : Call) (cs : List Call) → Inv s → doneBy (isClose h c) (step s c .answer) ≡ true → cameTo (isReplyEntry n) h (own n (run s (c ∷ cs))) ≡ 0
+  unfolding brought
+  closed-replies s c cs r k =
+      let f = flow h n l d s r c .closing k in
+      let a = own-replies (step s c .state) cs (keeps s c r) in
+      let w = sending-less wanting h n (step s c .state) in
+      split (givesTo n (step s c .answer)) (λ e. rw e (omega (arith, f .3))) (λ e. rw e (omega (arith, f .0, f .1, f .3)))
 
   -- ---- as long as the number is not given again
   pub kept-results : (s : State) (cs : List Call) → Inv s → count (gives n) (run s cs) ≡ 0 → sending h n (after s cs) + cameTo (isResult n) h (run s cs) ≤ sending h n s

@@ -1,15 +1,13 @@
 -- An unconfigure ends every transmission with a result and every wait with its entry.
 -- Assumes nothing.
-use Prim.Native.Nat.{ℕ, _+_, _-_, _≤_, _<_}
-use mathlib.Core.Bool.{Bool, true, false, cond, _&&_, not}
-use mathlib.Core.List.{List, [], _∷_, _++_, map}
-use mathlib.Core.Logic.{_≢_}
-use mathlib.Core.Path.{_≡_, refl, ap, _∙_, sym}
+use Prim.Native.Nat.{ℕ, _+_, _≤_}
+use mathlib.Core.List.{List}
+use mathlib.Core.Path.{_≡_, refl, ap, _∙_}
 use native.Mathlib.Omega.{arith}
 use lib.Dec.{eqb}
 use lib.ListN.{length}
 use Rattle.constants.specs.Kernel.{CEC-TX-STATUS-ABORTED}
-use Rattle.lists.specs.Sums.{sum, sum-zero, sum-le, count}
+use Rattle.lists.specs.Sums.{sum-zero, sum-le, count}
 use Rattle.lists.specs.Tests.{bit, split}
 use Rattle.entry.specs.Entry.{noCounts, result, aborted}
 use Rattle.entry.specs.declared.Entry.{Entry}

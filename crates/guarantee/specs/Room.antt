@@ -4,7 +4,7 @@ use Prim.Native.Nat.{ℕ, _≤_, _<_}
 use mathlib.Core.Bool.{true}
 use mathlib.Core.List.{List, [], _∷_, _++_}
 use mathlib.Core.Path.{_≡_}
-use lib.ListN.{length, getD}
+use lib.ListN.{length}
 use Rattle.message.specs.declared.Message.{Message}
 use Rattle.entry.specs.Entry.{resultCopy, messageCopy}
 use Rattle.entry.specs.declared.Counts.{Counts}

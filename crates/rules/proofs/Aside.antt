@@ -1,16 +1,16 @@
 -- Copies and the core's own work: no transmission and no wait of a handle ends or begins by them (document 01, "A message from the wire").
 -- Assumes nothing.
-use Prim.Native.Nat.{ℕ, _+_, _≤_, _<_}
+use Prim.Native.Nat.{ℕ, _≤_, _<_}
 use mathlib.Core.Bool.{Bool, true, false, cond, _&&_}
 use mathlib.Core.List.{List, [], _∷_, _++_, map, append-assoc, append-nil}
-use mathlib.Core.Path.{_≡_, refl, sym, ap, _∙_}
+use mathlib.Core.Path.{_≡_, refl, sym, _∙_}
 use native.Mathlib.Omega.{arith}
 use lib.Dec.{eqb, ltb}
 use lib.ListN.{length, set, length-append, length-set}
 use borrow.Author.Tests.{eqb-true, eqb-false, ne-eqb, ltb-true}
 use Rattle.lists.specs.Elements.{map-append, set-rel}
 use Rattle.lists.specs.Sums.{sum, sum-append, sum-map, sum-zero}
-use Rattle.lists.specs.Tests.{bit, split, both, clash}
+use Rattle.lists.specs.Tests.{split, both, clash}
 use Rattle.lists.specs.Vector.{put}
 use Rattle.message.specs.Message.{message}
 use Rattle.message.specs.declared.Message.{Message}

@@ -1,16 +1,16 @@
 -- What comes to one handle: entries put at the end of its inbox, copies among them (document 01, "The adapter's parts").
 -- Assumes nothing.
 use Prim.Native.Nat.{ℕ, _+_, _≤_, _<_}
-use mathlib.Core.Bool.{Bool, true, false, cond, _&&_}
+use mathlib.Core.Bool.{Bool, cond, _&&_}
 use mathlib.Core.List.{List, [], _∷_, _++_, map, append-assoc, append-nil}
 use mathlib.Core.Path.{_≡_, refl, sym, ap, _∙_}
 use native.Mathlib.Omega.{arith}
 use lib.Dec.{eqb, ltb}
-use lib.ListN.{length, set, length-append, length-map, length-set}
-use lib.Seq.{getD-set-same, getD-set-other, set-out, set-getD}
+use lib.ListN.{length, length-append, length-map, length-set}
+use lib.Seq.{getD-set-same, getD-set-other, set-out}
 use borrow.Author.Tests.{eqb-true, eqb-false, ltb-true, ltb-false, lt-ltb}
 use Rattle.lists.specs.Sums.{sum, sum-append, count, keep, length-keep-count}
-use Rattle.lists.specs.Tests.{bit, split, eqb-refl}
+use Rattle.lists.specs.Tests.{split}
 use Rattle.lists.specs.Vector.{put}
 use Rattle.entry.specs.declared.Entry.{Entry}
 use Rattle.inbox.specs.Inboxes.{inboxOf, delivered}

@@ -1,6 +1,6 @@
 -- Demand 3 holds of the rules, for any list of calls from a fresh adapter.
 -- Assumes nothing.
-use Prim.Native.Nat.{ℕ, zero, suc, _+_, _≤_, _<_}
+use Prim.Native.Nat.{ℕ, zero, suc}
 use mathlib.Core.Bool.{true, false}
 use mathlib.Core.List.{List, [], _∷_, _++_}
 use mathlib.Core.Path.{_≡_, refl, ap, _∙_, sym}
@@ -16,15 +16,15 @@ use Rattle.rules.specs.Cases.{after}
 use Rattle.rules.specs.Handles.{isOpen}
 use Rattle.rules.specs.Owed.{roomOwed, repliesWanted}
 use Rattle.rules.specs.State.{State, Capabilities, fresh, closedHandle}
-use Rattle.rules.specs.Step.{Step, step, stepOf, run}
+use Rattle.rules.specs.Step.{Step, step, run}
 use Rattle.rules.proofs.Numbers.{carriedBy}
-use Rattle.guarantee.specs.Claim.{Fate, Kept, Claim}
+use Rattle.guarantee.specs.Claim.{Fate, Claim}
 use Rattle.guarantee.specs.Seen.{opens, came, gave, sinceOpen, all}
 use Rattle.guarantee.proofs.Began.{began}
 use Rattle.guarantee.proofs.Fate.{fate}
 use Rattle.guarantee.proofs.Invariant.{Inv, open-below}
 use Rattle.guarantee.proofs.Keeps.{keeps}
-use Rattle.guarantee.proofs.Parts.{Parted, parted, last-after}
+use Rattle.guarantee.proofs.Parts.{parted, last-after}
 use Rattle.guarantee.proofs.Since.{no-open, since-open}
 use Rattle.guarantee.proofs.Totals.{kept}
 

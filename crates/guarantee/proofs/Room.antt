@@ -1,25 +1,22 @@
 -- Results and replies always have their room, in every state that calls lead to from a fresh adapter.
 -- Assumes nothing.
 use Prim.Native.Nat.{ℕ, _+_, _≤_, _<_}
-use mathlib.Core.Bool.{true, false}
 use mathlib.Core.List.{List, [], _∷_, _++_}
-use mathlib.Core.Path.{_≡_, refl, ap, _∙_, sym}
+use mathlib.Core.Path.{_≡_, refl, ap, _∙_}
 use native.Mathlib.Omega.{arith}
 use lib.Dec.{eqb, ltb}
 use lib.ListN.{length}
 use borrow.Author.Tests.{ltb-true}
 use Rattle.lists.specs.Sums.{sum, sum-append, sum-le, count}
 use Rattle.lists.specs.Tests.{bit, split, eqb-refl}
-use Rattle.message.specs.declared.Message.{Message}
 use Rattle.entry.specs.Entry.{noCounts, result, resultCopy, timedOut, aborted, messageCopy}
-use Rattle.entry.specs.declared.Counts.{Counts}
 use Rattle.entry.specs.declared.Entry.{Entry}
 use Rattle.inbox.specs.Inboxes.{inboxOf}
 use Rattle.rules.specs.Cases.{after}
-use Rattle.rules.specs.Deliver.{each, copies}
-use Rattle.rules.specs.Handles.{inRole, isMonitor}
+use Rattle.rules.specs.Deliver.{each}
+use Rattle.rules.specs.Handles.{isMonitor}
 use Rattle.rules.specs.Incoming.{monitors}
-use Rattle.rules.specs.Owed.{pending, roomOwed, owedRoom, roomTaken}
+use Rattle.rules.specs.Owed.{pending, roomOwed, owedRoom}
 use Rattle.rules.specs.State.{State, fresh, withWaits}
 use Rattle.rules.specs.Time.{overdue, remaining, timeOut}
 use Rattle.rules.specs.Unconfigure.{abortTransmit, abortWait, unset}
@@ -34,7 +31,7 @@ use Rattle.wait.specs.declared.Wait.{Wait}
 use Rattle.guarantee.specs.Room.{HasRoom, Room, AlwaysRoom}
 use Rattle.guarantee.proofs.BusResultEnds.{wait-fits}
 use Rattle.guarantee.proofs.Invariant.{Inv, improperWait}
-use Rattle.guarantee.proofs.Proved.{fresh-inv}
+use Rattle.guarantee.proofs.Claim.{fresh-inv}
 use Rattle.guarantee.proofs.TimeEnds.{sum-time}
 use Rattle.guarantee.proofs.Totals.{kept}
 use Rattle.guarantee.proofs.UnconfigureEnds.{owed-each}
