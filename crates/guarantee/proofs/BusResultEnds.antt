@@ -121,9 +121,9 @@ module _ (s : State) (x : Transmission) (r : Inv s) (w : s .wire ≡ x ∷ []) w
     left-near : (f : Transmission → ℕ) → Owned f → last f (pending (concluded s x status kept)) ≤ last f (pending s) - 1
     left-near f z =
         let a : last f (pending (concluded s x status kept)) ≡ last f (s .queue) =
-            ap (λ (l : List Transmission). last f (drop 1 l ++ copied .queue)) w
-            ∙ ap (last f) (aside .queue)
-            ∙ last-more f (s .queue) (map ownerless (aside .core)) (core-weightless f z (aside .core)) in
+        ap (λ (l : List Transmission). last f (drop 1 l ++ copied .queue)) w
+        ∙ ap (last f) (aside .queue)
+        ∙ last-more f (s .queue) (map ownerless (aside .core)) (core-weightless f z (aside .core)) in
         let b : last f (pending s) ≡ last f (x ∷ s .queue) = ap (λ (l : List Transmission). last f (l ++ s .queue)) w in
         omega (arith, last-tail f x (s .queue))
 

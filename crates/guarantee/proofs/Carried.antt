@@ -5,13 +5,12 @@ use mathlib.Core.Bool.{Bool, true, false, cond, _&&_}
 use mathlib.Core.Path.{_≡_}
 use native.Mathlib.Omega.{arith}
 use lib.Dec.{eqb}
-use borrow.Author.Tests.{ne-eqb}
 use Rattle.lists.specs.Last.{last}
 use Rattle.lists.specs.Sums.{sum, sum-le}
 use Rattle.lists.specs.Tests.{bit, split}
 use Rattle.rules.specs.Owed.{pending}
 use Rattle.rules.specs.State.{State}
-use Rattle.rules.proofs.Aside.{Owned}
+use Rattle.rules.proofs.Aside.{Owned, no-owner}
 use Rattle.rules.proofs.Numbers.{carriedBy}
 use Rattle.transmission.specs.Transmission.{numbered}
 use Rattle.transmission.specs.declared.Transmission.{Transmission}
@@ -54,7 +53,7 @@ placed h n s = last (sentAs always h n) (pending s)
 
 -- none of them is without owner
 pub sent-owned : (q : Transmission → Bool) (h n : ℕ) → h < 8 → Owned (sentAs q h n)
-sent-owned q h n l m = rw (ne-eqb 255 h (λ (p : 255 ≡ h). omega arith))
+sent-owned q h n l m = rw (no-owner h l)
 
 pub sent-once : (h n : ℕ) (t : Transmission) → sentAs always h n t ≤ 1
 sent-once h n t = split (isFrom h n t) (λ e. rw e (omega arith)) (λ e. rw e (omega arith))

@@ -18,7 +18,7 @@ use Rattle.handle.specs.declared.Handle.{Handle}
 use Rattle.rules.specs.Close.{closed}
 use Rattle.rules.specs.Owed.{pending, roomOwed, repliesWanted, roomTaken}
 use Rattle.rules.specs.State.{State, closedHandle}
-use Rattle.rules.proofs.Aside.{Owned, room-owned}
+use Rattle.rules.proofs.Aside.{Owned, no-owner, room-owned}
 use Rattle.rules.proofs.Numbers.{carriedBy}
 use Rattle.transmission.specs.Transmission.{orphaned, roomFor, replyFor, numbered}
 use Rattle.transmission.specs.declared.Transmission.{Transmission}
@@ -44,14 +44,14 @@ sum-closed-le f z s g = omega (arith, sum-closed f s g, sum-le (λ t. f (orphane
 
 -- the weights of a handle and of a number count none without owner
 pub reply-owned : (h : ℕ) → h < 8 → Owned (replyFor h)
-reply-owned h l m = rw (ne-eqb 255 h (λ (p : 255 ≡ h). omega arith))
+reply-owned h l m = rw (no-owner h l)
 
 pub numbered-owned : (n : ℕ) → n ≢ 0 → Owned (λ t. bit (numbered n t))
 numbered-owned n d m = rw (ne-eqb 0 n (λ (p : 0 ≡ n). d (sym p)))
 
 -- of the handle itself nothing is left
 owed-orphaned : (g : ℕ) (t : Transmission) → g < 8 → roomFor g (orphaned g t) ≡ 0
-owed-orphaned g t l = split (eqb (t .owner) g) (λ e. rw (e, ne-eqb 255 g (λ (p : 255 ≡ g). omega arith))) (λ e. rw (e, e))
+owed-orphaned g t l = split (eqb (t .owner) g) (λ e. rw (e, no-owner g l)) (λ e. rw (e, e))
 
 wait-gone : (g : ℕ) (w : Wait) → cond (not (ownedBy g w)) (bit (ownedBy g w)) 0 ≡ 0
 wait-gone g w = split (ownedBy g w) (λ e. rw e) (λ e. rw e)

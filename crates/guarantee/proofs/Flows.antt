@@ -25,11 +25,11 @@ use Rattle.guarantee.proofs.Brought.{silent-brought, ended-results, end
 use Rattle.guarantee.proofs.ByCases.{by-cases}
 use Rattle.guarantee.proofs.Carried.{sentAs, awaitedAs, always, sendingAs, waitingAs, placed, sent-owned}
 use Rattle.guarantee.proofs.Cases.{Cases, Silent, enqueued}
+use Rattle.guarantee.proofs.ClosedFlow.{close-flow}
 use Rattle.guarantee.proofs.Ends.{Ends, begins}
+use Rattle.guarantee.proofs.Flow.{Flow, wanting, unwanting, longer, next-given, still-flow}
 use Rattle.guarantee.proofs.Invariant.{Inv}
 use Rattle.guarantee.proofs.QueuedKept.{pending-queued, sum-queued}
-use Rattle.guarantee.proofs.Flow.{Flow, wanting, unwanting, longer, next-given, still-flow}
-use Rattle.guarantee.proofs.ClosedFlow.{close-flow}
 
 module _ (h n : ℕ) (l : h < 8) (d : n ≢ 0) (s : State) (r : Inv s) where
   -- ---- transmit

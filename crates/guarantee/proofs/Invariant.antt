@@ -94,7 +94,14 @@ waits-spread s r =
       spread (λ (w : Wait). w .owner) (λ w. 1) 8 (s .waits),
       sum-le (λ (w : Wait). cond (leb 8 (w .owner)) 1 0) improperWait (s .waits) away-improper,
       r .waiting,
-      same 0, same 1, same 2, same 3, same 4, same 5, same 6, same 7,
+      same 0,
+      same 1,
+      same 2,
+      same 3,
+      same 4,
+      same 5,
+      same 6,
+      same 7,
     )
 
 wants-spread : (s : State) → Inv s → sum (λ (t : Transmission). bit (t .«wants_reply»)) (pending s) ≤ upto (λ h. sum (replyFor h) (pending s)) 8

@@ -2,22 +2,22 @@
 -- Assumes nothing.
 use Prim.Native.Nat.{ℕ, _≤_}
 use mathlib.Core.Bool.{Bool, true, false, _&&_, not}
-use mathlib.Core.List.{List, [], _∷_}
-use mathlib.Core.Path.{_≡_, refl, ap, _∙_, sym}
+use mathlib.Core.List.{List, [], _∷_, _++_}
+use mathlib.Core.Path.{_≡_, refl, ap, ap₂, _∙_, sym}
 use native.Mathlib.Omega.{arith}
 use lib.Dec.{eqb, ltb}
 use lib.ListN.{length, set, length-set}
 use Rattle.constants.specs.Kernel.{CEC-TX-STATUS-OK}
 use Rattle.lists.specs.Elements.{set-rel}
-use Rattle.lists.specs.Sums.{sum-le}
+use Rattle.lists.specs.Sums.{sum, sum-le}
 use Rattle.lists.specs.Tests.{bit, split, both, clash}
 use Rattle.entry.specs.declared.Entry.{Entry}
 use Rattle.handle.specs.declared.Handle.{Handle}
 use Rattle.inbox.specs.Inboxes.{inboxOf}
 use Rattle.rules.specs.Call.{Call, Answer}
-use Rattle.rules.specs.Handles.{hasBit}
+use Rattle.rules.specs.Handles.{isOpen, hasBit}
 use Rattle.rules.specs.Open.{openedHandle}
-use Rattle.rules.specs.Owed.{roomOwed, repliesWanted}
+use Rattle.rules.specs.Owed.{pending, owedRoom, repliesWanted}
 use Rattle.rules.specs.State.{State, closedHandle, withHandles, withInboxes, withQueue, withWire}
 use Rattle.rules.specs.Step.{step}
 use Rattle.rules.proofs.Numbers.{carriedBy}
@@ -30,80 +30,52 @@ use Rattle.wait.specs.declared.Wait.{Wait}
 use Rattle.guarantee.proofs.BusResultEnds.{wait-proper}
 use Rattle.guarantee.proofs.ByCases.{by-cases}
 use Rattle.guarantee.proofs.Cases.{Cases, Quiet, calm}
-use Rattle.guarantee.proofs.Ends.{Ends, begins}
-use Rattle.guarantee.proofs.Invariant.{Inv, isProper, improper, improperWait}
-
 use Rattle.guarantee.proofs.ClosedKept.{closed-kept, reply-owned, numbered-owned}
+use Rattle.guarantee.proofs.Ends.{Ends, begins}
+use Rattle.guarantee.proofs.Invariant.{Inv, isProper, improper, improperWait, spent}
 use Rattle.guarantee.proofs.QueuedKept.{queued-kept}
 
--- ---- modes, settings and noted addresses
-quiet-kept : (s : State) (c : Call) (a : Answer) (hs : List Handle) (last : ℕ) (x : Settings) (noted : List ℕ) → Inv s → Quiet s c a hs → Inv (calm s hs last x noted)
-quiet-kept s c a hs last x noted r q = record {
-  handles = q .handles ∙ r .handles;
-  inboxes = r .inboxes;
-  queued = r .queued;
-  wired = r .wired;
-  transmissions = r .transmissions;
-  waiting = r .waiting;
-  timed = r .timed;
-  once = r .once;
-  asks = r .asks;
-  room = r .room;
-  none = λ h l e. r .none h l (sym (q .still h) ∙ e);
-}
-
--- ---- open
-opened-kept : (s : State) (i : ℕ) (p : Bool) → Inv s → Inv (withHandles s (set (s .handles) i (openedHandle p)))
-opened-kept s i p r = record {
-  handles = length-set (s .handles) i (openedHandle p) ∙ r .handles;
-  inboxes = r .inboxes;
-  queued = r .queued;
-  wired = r .wired;
-  transmissions = r .transmissions;
-  waiting = r .waiting;
-  timed = r .timed;
-  once = r .once;
-  asks = r .asks;
-  room = r .room;
-  none = λ h l e. r .none h l (set-rel (λ (x y : Handle). x .«is_open» ≡ false → y .«is_open» ≡ false) (λ x z. z) (s .handles) i h (openedHandle p) closedHandle (λ z. clash refl z) e);
-}
-
--- ---- receive
-received-kept : (s : State) (g : ℕ) (x : Entry) (es : List Entry) → inboxOf (s .inboxes) g ≡ x ∷ es → Inv s → Inv (withInboxes s (set (s .inboxes) g es))
-received-kept s g x es i r =
-    let less : (h : ℕ) → length (inboxOf (set (s .inboxes) g es) h) ≤ length (inboxOf (s .inboxes) h) = λ h. set-rel (λ (a b : List Entry). length a ≤ length b) (λ a. omega arith) (s .inboxes) g h es [] (omega (arith, ap length i)) in
+-- what is pending and the waits are the same, no inbox has more, and no handle is closed
+same-kept : (s t : State) → Inv s → length (t .handles) ≡ 8 → length (t .inboxes) ≡ 8 → length (t .queue) ≤ 18 → length (t .wire) ≤ 1 → pending t ≡ pending s → t .waits ≡ s .waits
+    → ((h : ℕ) → length (inboxOf (t .inboxes) h) ≤ length (inboxOf (s .inboxes) h)) → ((h : ℕ) → isOpen t h ≡ false → isOpen s h ≡ false) → Inv t
+same-kept s t r handles inboxes queue wire p w less shut =
+    let owed : (h : ℕ) → owedRoom t h ≡ owedRoom s h = λ h. rw (p, w) in
     record {
-      handles = r .handles;
-      inboxes = length-set (s .inboxes) g es ∙ r .inboxes;
-      queued = r .queued;
-      wired = r .wired;
-      transmissions = r .transmissions;
-      waiting = r .waiting;
-      timed = r .timed;
-      once = r .once;
-      asks = r .asks;
-      room = λ h l. omega (arith, r .room h l, less h);
-      none = λ h l e. omega (arith, r .none h l e, less h);
+      handles = handles;
+      inboxes = inboxes;
+      queued = queue;
+      wired = wire;
+      transmissions = ap (sum improper) p ∙ r .transmissions;
+      waiting = ap (sum improperWait) w ∙ r .waiting;
+      timed = ap (sum spent) w ∙ r .timed;
+      once = λ n d. rw (p, w) (r .once n d);
+      asks = λ h l. rw (p, w) (r .asks h l);
+      room = λ h l. omega (arith, r .room h l, less h, owed h);
+      none = λ h l e. omega (arith, r .none h l (shut h e), less h, owed h);
     }
 
--- ---- bus start
-started-kept : (s : State) (x : Transmission) (q : List Transmission) → Inv (withQueue (withWire s []) (x ∷ q)) → Inv (withQueue (withWire s (x ∷ [])) q)
-unfolding repliesWanted roomOwed carriedBy
-started-kept s x q r = record {
-  handles = r .handles;
-  inboxes = r .inboxes;
-  queued = omega (arith, r .queued);
-  wired = omega arith;
-  transmissions = r .transmissions;
-  waiting = r .waiting;
-  timed = r .timed;
-  once = r .once;
-  asks = r .asks;
-  room = r .room;
-  none = r .none;
-}
+-- modes, settings and noted addresses
+quiet-kept : (s : State) (c : Call) (a : Answer) (hs : List Handle) (last : ℕ) (x : Settings) (noted : List ℕ) → Inv s → Quiet s c a hs → Inv (calm s hs last x noted)
+quiet-kept s c a hs last x noted r q =
+    same-kept s (calm s hs last x noted) r (q .handles ∙ r .handles) (r .inboxes) (r .queued) (r .wired) refl refl (λ h. omega arith) (λ h e. sym (q .still h) ∙ e)
 
--- ---- what ends transmissions and waits
+opened-kept : (s : State) (i : ℕ) (p : Bool) → Inv s → Inv (withHandles s (set (s .handles) i (openedHandle p)))
+opened-kept s i p r =
+    same-kept s (withHandles s (set (s .handles) i (openedHandle p))) r (length-set (s .handles) i (openedHandle p) ∙ r .handles) (r .inboxes) (r .queued) (r .wired) refl refl (λ h. omega arith)
+    (λ h e. set-rel (λ (x y : Handle). x .«is_open» ≡ false → y .«is_open» ≡ false) (λ x z. z) (s .handles) i h (openedHandle p) closedHandle (λ z. clash refl z) e)
+
+received-kept : (s : State) (g : ℕ) (x : Entry) (es : List Entry) → inboxOf (s .inboxes) g ≡ x ∷ es → Inv s → Inv (withInboxes s (set (s .inboxes) g es))
+received-kept s g x es i r =
+    same-kept s (withInboxes s (set (s .inboxes) g es)) r (r .handles) (length-set (s .inboxes) g es ∙ r .inboxes) (r .queued) (r .wired) refl refl
+    (λ h. set-rel (λ (a b : List Entry). length a ≤ length b) (λ a. omega arith) (s .inboxes) g h es [] (omega (arith, ap length i)))
+    (λ h e. e)
+
+-- a bus start moves the head of the queue to the wire
+started-kept : (s : State) (x : Transmission) (q : List Transmission) → s .wire ≡ [] → s .queue ≡ x ∷ q → Inv s → Inv (withQueue (withWire s (x ∷ [])) q)
+started-kept s x q a b r =
+    same-kept s (withQueue (withWire s (x ∷ [])) q) r (r .handles) (r .inboxes) (omega (arith, r .queued, ap length b)) (omega arith) (sym (ap₂ _++_ a b)) refl (λ h. omega arith) (λ h e. e)
+
+-- the wait that begins is proper, of the number of its transmission, and of a handle that wanted a reply
 begins-proper : (status : ℕ) (x : Transmission) → begins improperWait status x ≤ improper x
 begins-proper status x =
     split (hasBit CEC-TX-STATUS-OK status && x .«wants_reply»)
@@ -155,7 +127,7 @@ ended-kept s t c r e = record {
   none = λ h l z. e .comes h l .none (sym (e .opens h) ∙ z);
 }
 
--- ---- every call
+-- every call
 kept-cases : (s : State) → Inv s → Cases s (λ c o. Inv (o .state))
 kept-cases s r = record {
   whenQuiet = λ c a hs last x noted q _. quiet-kept s c a hs last x noted r q;
@@ -163,7 +135,7 @@ kept-cases s r = record {
   whenClosed = λ g l _ _. closed-kept s g l r;
   whenQueued = λ g x l o f w m _. queued-kept s g x l o f w m r;
   whenReceived = λ g x es _ _ i _. received-kept s g x es i r;
-  whenStarted = λ x q a b _. started-kept s x q (rw (a, b) at r);
+  whenStarted = λ x q a b _. started-kept s x q a b r;
   whenEnded = λ c t e. ended-kept s t c r e;
 }
 

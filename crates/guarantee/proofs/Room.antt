@@ -30,8 +30,8 @@ use Rattle.wait.specs.Wait.{ownedBy}
 use Rattle.wait.specs.declared.Wait.{Wait}
 use Rattle.guarantee.specs.Room.{HasRoom, Room, AlwaysRoom}
 use Rattle.guarantee.proofs.BusResultEnds.{wait-fits}
-use Rattle.guarantee.proofs.Invariant.{Inv, improperWait}
 use Rattle.guarantee.proofs.Claim.{fresh-inv}
+use Rattle.guarantee.proofs.Invariant.{Inv, improperWait}
 use Rattle.guarantee.proofs.TimeEnds.{sum-time}
 use Rattle.guarantee.proofs.Totals.{kept}
 use Rattle.guarantee.proofs.UnconfigureEnds.{owed-each}

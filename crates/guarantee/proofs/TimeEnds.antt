@@ -29,7 +29,6 @@ use Rattle.guarantee.proofs.Ends.{Ends, Timeless, shown-reply}
 use Rattle.guarantee.proofs.Invariant.{Inv, spent}
 
 module _ (ms : ℕ) where
-
   -- a wait ends or goes on
   pub sum-time : (f : Wait → ℕ) → Timeless f → (ws : List Wait) → sum f (remaining ms ws) + sum f (overdue ms ws) ≡ sum f ws
   sum-time f same ws =

@@ -24,7 +24,7 @@ use Rattle.rules.specs.Handles.{handleAt, isOpen, inRole}
 use Rattle.rules.specs.Incoming.{followed, refusedMessage, isCopied, isUnhandled}
 use Rattle.rules.specs.Owed.{pending, roomOwed, owedRoom, roomTaken}
 use Rattle.rules.specs.State.{State, closedHandle, withHandles, withQueue, withNoted}
-use Rattle.transmission.specs.Transmission.{ownerless, roomFor}
+use Rattle.transmission.specs.Transmission.{noOwner, ownerless, roomFor}
 use Rattle.transmission.specs.declared.Transmission.{Transmission}
 use Rattle.waits.specs.Waits.{Taken}
 use Rattle.rules.proofs.Entries.{messageCopy-shows}
@@ -96,9 +96,12 @@ core-weightless f z ms = sum-map f ownerless ms ∙ sum-zero (λ m. f (ownerless
 pub aside-sum : (f : Transmission → ℕ) → Owned f → (s t : State) → Aside s t → sum f (pending t) ≡ sum f (pending s)
 aside-sum f z s t a = rw (aside-pending s t a) (omega (arith, sum-append f (pending s) (map ownerless (a .core)), core-weightless f z (a .core)))
 
--- handles have no ownerless transmission
+-- no handle has the number that stands for no owner, so none is owed room for what has none
+pub no-owner : (h : ℕ) → h < 8 → eqb noOwner h ≡ false
+no-owner h l = ne-eqb noOwner h (λ (p : noOwner ≡ h). omega arith)
+
 pub room-owned : (h : ℕ) → h < 8 → Owned (roomFor h)
-room-owned h l m = rw (ne-eqb 255 h (λ (p : 255 ≡ h). omega arith))
+room-owned h l m = rw (no-owner h l)
 
 pub aside-owed : (s t : State) → Aside s t → (h : ℕ) → h < 8 → owedRoom t h ≡ owedRoom s h
 unfolding roomOwed
