@@ -39,13 +39,16 @@ module _ (s : State) (r : Inv s) (h : ℕ) (x : Request) where
   new-sending q g =
       omega (arith, sum-queued (sentAs q g (nextNumber s)) s h x, sending-less q g (nextNumber s) s, unused g (nextNumber s) s (next-unused s r) .0)
 
+  -- of its own handle there is one, if it passes the test
   own-new : (q : Transmission → Bool) (b : Bool) → q (transmissionOf (nextNumber s) h x) ≡ b → sendingAs q h (nextNumber s) (enqueued s h x) ≡ bit b
   own-new q b e = new-sending q h ∙ rw (eqb-refl h, eqb-refl (nextNumber s), e)
 
+  -- nothing waits under its number
   new-waiting : (g : ℕ) → waiting g (nextNumber s) (enqueued s h x) ≡ 0
   unfolding waitingAs
   new-waiting g = unused g (nextNumber s) s (next-unused s r) .1
 
+  -- so it begins
   queued-began : isOpen s h ≡ true → Began h x (nextNumber s) (enqueued s h x)
   queued-began o = record {
     home = open-below s h r o;
@@ -58,6 +61,7 @@ module _ (s : State) (r : Inv s) (h : ℕ) (x : Request) where
     timeout = own-new (longer (timeoutOf x)) false (le-ltb (timeoutOf x) (timeoutOf x) (omega arith));
   }
 
+  -- every transmit that is answered with its number and tx_status 0
   pub began : (n : ℕ) → step s (callTransmit h x) .answer ≡ accepted n 0 → Began h x n (step s (callTransmit h x) .state)
   began n e =
       let q = transmit-queued s h x n e in

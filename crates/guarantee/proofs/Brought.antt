@@ -4,7 +4,7 @@ use Prim.Native.Nat.{ℕ, _+_, _-_, _≤_, _<_}
 use mathlib.Core.Bool.{Bool, true, false, cond, _&&_}
 use mathlib.Core.List.{List, map}
 use mathlib.Core.Logic.{_≢_}
-use mathlib.Core.Path.{_≡_, refl, ap, _∙_, sym}
+use mathlib.Core.Path.{_≡_, ap, _∙_, sym}
 use native.Mathlib.Omega.{arith}
 use lib.Dec.{eqb}
 use lib.ListN.{length}
@@ -12,7 +12,7 @@ use lib.Seq.{drop-append-seam}
 use borrow.Author.Tests.{ne-eqb}
 use Rattle.constants.specs.Kernel.{CEC-TX-STATUS-OK}
 use Rattle.lists.specs.Sums.{sum, sum-append, sum-map, sum-keep, sum-same, sum-zero, sum-le, count, keep}
-use Rattle.lists.specs.Tests.{bit, split, and-false, and-true}
+use Rattle.lists.specs.Tests.{bit, split, and-false, and-true, and-cond}
 use Rattle.entry.specs.declared.Entry.{Entry}
 use Rattle.inbox.specs.Inboxes.{inboxOf}
 use Rattle.rules.specs.Call.{Call, Outcome, finish, done}
@@ -32,6 +32,7 @@ use Rattle.guarantee.proofs.Ends.{Ends}
 unfoldable pub brought : (Entry → Bool) → ℕ → State → Call → Outcome → ℕ
 brought p h s c o = count p (came h (stepFrom s c o))
 
+-- where nothing comes, none
 pub silent-brought : (p : Entry → Bool) (h : ℕ) (s : State) (c : Call) (o : Outcome) → Silent s c o → brought p h s c o ≡ 0
 unfolding brought
 silent-brought p h s c o z = ap (count p) (z h)
@@ -67,6 +68,7 @@ module _ (s : State) (c : Call) (t : State) (e : Ends s c t) (h : ℕ) (l : h < 
       let z : length (inboxOf (s .inboxes) h) - 0 ≡ length (inboxOf (s .inboxes) h) = omega arith in
       rw (e .closes h, e .comes h l .mail .grown, z) (drop-append-seam (inboxOf (s .inboxes) h) (e .comes h l .mail .more))
 
+  -- a weight over the results and replies to h
   entries-sum : (f : Entry → ℕ) → sum f (entriesTo (e .resultOf) (e .replyOf) h (e .sent) (e .over))
       ≡ sum (λ x. cond (eqb (x .owner) h) (f (e .resultOf x)) 0) (e .sent) + sum (λ w. cond (ownedBy h w) (f (e .replyOf w)) 0) (e .over)
   entries-sum f =
@@ -81,18 +83,15 @@ module _ (s : State) (c : Call) (t : State) (e : Ends s c t) (h : ℕ) (l : h < 
         sum-keep (λ w. f (e .replyOf w)) (ownedBy h) (e .over),
       )
 
+  -- entries of a kind that copies are not of are counted over the transmissions and waits that end
   ended-brought : (p : Entry → Bool) → Numbered (λ x. bit (p x)) → brought p h s c (finish done t)
       ≡ sum (λ x. cond (eqb (x .owner) h) (bit (p (e .resultOf x))) 0) (e .sent) + sum (λ w. cond (ownedBy h w) (bit (p (e .replyOf w))) 0) (e .over)
   unfolding brought
   ended-brought p z = ap (count p) ended-came ∙ e .comes h l .mail .counted (λ x. bit (p x)) z ∙ entries-sum (λ x. bit (p x))
 
+  -- a weight of 0
   none-kept : {A : Type 0} (b : A → Bool) (f : A → ℕ) (xs : List A) → ((x : A) → f x ≡ 0) → sum (λ x. cond (b x) (f x) 0) xs ≡ 0
   none-kept b f xs z = sum-zero (λ x. cond (b x) (f x) 0) xs (λ x. split (b x) (λ q. rw q (z x)) (λ q. rw q))
-
-  and-cond : (a b : Bool) → cond a (bit b) 0 ≡ cond (a && b) 1 0
-  and-cond true true = refl
-  and-cond true false = refl
-  and-cond false b = refl
 
   module _ (n : ℕ) (d : n ≢ 0) where
     -- a result shows its number and a status that is not 0, and no receive status
@@ -102,6 +101,7 @@ module _ (s : State) (c : Call) (t : State) (e : Ends s c t) (h : ℕ) (l : h < 
     result-not : (x : Transmission) → bit (isReplyEntry n (e .resultOf x)) ≡ 0
     result-not x = let z = e .results x in rw (z .received, and-false)
 
+    -- a reply shows its number and a receive status, and no status of a transmit
     reply-is : (w : Wait) → isReplyEntry n (e .replyOf w) ≡ eqb (w .number) n
     reply-is w = let z = e .replies w in rw (z .sequence, ne-eqb (e .replyOf w .«rx_status») 0 (z .received)) (and-true (eqb (w .number) n))
 

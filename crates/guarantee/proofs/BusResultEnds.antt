@@ -51,6 +51,7 @@ module _ (s : State) (x : Transmission) (r : Inv s) (w : s .wire ≡ x ∷ []) w
   on-wire : (f : Transmission → ℕ) → sum f (pending s) ≡ f x + sum f (s .queue)
   on-wire f = omega (arith, sum-append f (s .wire) (s .queue), ap (sum f) w)
 
+  -- the transmission on the wire is proper
   wire-proper : improper x ≡ 0
   wire-proper = omega (arith, on-wire improper, r .transmissions)
 
@@ -72,6 +73,7 @@ module _ (s : State) (x : Transmission) (r : Inv s) (w : s .wire ≡ x ∷ []) w
       (λ e. rw e (omega (arith, sum-append f (s .waits) (waitFor x ∷ []))))
       (λ e. rw e (omega (arith, sum-append f (s .waits) []))))
 
+  -- the wait that begins has time left
   begun-timed : (status : ℕ) → begins spent status x ≡ 0
   begun-timed status =
       split (hasBit CEC-TX-STATUS-OK status && x .«wants_reply»)
@@ -93,12 +95,14 @@ module _ (s : State) (x : Transmission) (r : Inv s) (w : s .wire ≡ x ∷ []) w
       split (hasBit CEC-TX-STATUS-OK status && x .«wants_reply») (λ e. rw e (omega arith)) (λ e. rw e (omega arith))
 
   module _ (status : ℕ) (kept : Counts) where
+    -- the entry of its result, and that of a reply, of which there is none here
     abbrev resultOf : Transmission → Entry
     resultOf t = result (t .number) status kept (t .message)
 
     abbrev replyOf : Wait → Entry
     replyOf v = timedOut (v .number) (v .sent)
 
+    -- the copies for monitors come first
     abbrev copied : State
     copied = copies (inRole isMonitor) (resultCopy status kept (x .message)) s
 
@@ -118,6 +122,7 @@ module _ (s : State) (x : Transmission) (r : Inv s) (w : s .wire ≡ x ∷ []) w
           core-weightless f z (aside .core),
         )
 
+    -- the others are one nearer
     left-near : (f : Transmission → ℕ) → Owned f → last f (pending (concluded s x status kept)) ≤ last f (pending s) - 1
     left-near f z =
         let a : last f (pending (concluded s x status kept)) ≡ last f (s .queue) =
@@ -127,10 +132,12 @@ module _ (s : State) (x : Transmission) (r : Inv s) (w : s .wire ≡ x ∷ []) w
         let b : last f (pending s) ≡ last f (x ∷ s .queue) = ap (λ (l : List Transmission). last f (l ++ s .queue)) w in
         omega (arith, last-tail f x (s .queue))
 
+    -- the handle is owed less by the result that it gets
     owed-less : (h : ℕ) → h < 8 → owedRoom (concluded s x status kept) h + count (λ t. eqb (t .owner) h) (x ∷ []) + 0 ≤ owedRoom s h
     unfolding roomOwed
     owed-less h l = omega (arith, left-sum (roomFor h) (room-owned h l), begun-sum status (λ v. bit (ownedBy h v)), begun-owed status h)
 
+    -- a bus result that is taken
     pub busResult-ends : (counts : Counts) → status ≢ 0 → Ends s (callBusResult status counts) (concluded s x status kept)
     unfolding waitingAs
     busResult-ends counts d = record {

@@ -62,6 +62,7 @@ module _ (s : State) (r : Inv s) (P : Call → Outcome → Type 0) (k : Cases s 
   quietly : (c : Call) (a : Answer) (hs : List Handle) (last : ℕ) (x : Settings) (noted : List ℕ) → Quiet s c a hs → P c (finish a (calm s hs last x noted))
   quietly c a hs last x noted q = k .whenQuiet c a hs last x noted q (λ h. same-came h (stepFrom s c (finish a (calm s hs last x noted))) refl (q .noGift h))
 
+  -- a refused call
   refuses : (c : Call) (e : ℕ) → milliseconds c ≡ 0 → P c (finish (refused e) s)
   refuses c e z = quietly c (refused e) (s .handles) (s .last) (s .settings) (s .noted) (record {
     handles = refl;
@@ -80,6 +81,7 @@ module _ (s : State) (r : Inv s) (P : Call → Outcome → Type 0) (k : Cases s 
   unfolding unless
   checked c e o z p = split (eqb e 0) (λ q. rw q (p (eqb-true e 0 q))) (λ q. rw q (refuses c e z))
 
+  -- an open takes a number below 8 that was closed
   open-case : (p : Bool) → eqb (lowestClosed s) (length (s .handles)) ≡ false → P (callOpen p) (openDone s p)
   open-case p q =
       let i = lowestClosed s in
@@ -87,6 +89,7 @@ module _ (s : State) (r : Inv s) (P : Call → Outcome → Type 0) (k : Cases s 
       let c : isOpen s i ≡ false = not-true (isOpen s i) (first-passes (λ (x : Handle). not (x .«is_open»)) (s .handles) closedHandle l) in
       k .whenOpened i p (omega (arith, r .handles)) c (λ h. same-came h (stepFrom s (callOpen p) (openDone s p)) refl refl)
 
+  -- a mode leaves every handle open or closed
   mode-case : (g mode : ℕ) → P (callMode g mode) (finish done (withHandles s (set (s .handles) g (inMode (handleAt s g) mode))))
   mode-case g mode = quietly (callMode g mode) done (set (s .handles) g (inMode (handleAt s g) mode)) (s .last) (s .settings) (s .noted) (record {
     handles = length-set (s .handles) g (inMode (handleAt s g) mode);
@@ -100,6 +103,7 @@ module _ (s : State) (r : Inv s) (P : Call → Outcome → Type 0) (k : Cases s 
     idle = λ n q. differ cc;
   })
 
+  -- a poll answered at once is given the next number
   polled-case : (g : ℕ) (x : Request) → P (callTransmit g x) (polled s)
   polled-case g x = quietly (callTransmit g x) (accepted (nextNumber s) CEC-TX-STATUS-NACK) (s .handles) (nextNumber s) (s .settings) (s .noted) (record {
     handles = refl;
@@ -113,11 +117,13 @@ module _ (s : State) (r : Inv s) (P : Call → Outcome → Type 0) (k : Cases s 
     idle = λ n q. let y : _≡_ {A = ℕ} CEC-TX-STATUS-NACK 0 = cc in omega arith;
   })
 
+  -- a transmit that is queued found a place
   queued-case : (g : ℕ) (x : Request) → isOpen s g ≡ true → Roomy s g x → P (callTransmit g x) (queued s g x)
   queued-case g x o f =
       rw (lt-ltb (length (s .queue)) 18 (f .place))
       (k .whenQueued g x (open-below s g r o) o (f .place) (f .replies) (f .room) (λ h. same-came h (stepFrom s (callTransmit g x) (finish (accepted (nextNumber s) 0) (enqueued s g x))) refl refl))
 
+  -- a receive takes the oldest entry
   receive-case : (g : ℕ) (l : List Entry) → isOpen s g ≡ true → inboxOf (s .inboxes) g ≡ l → eqb (length l) 0 ≡ false
       → P (callReceive g) (finish (received (getD l 0 noEntry)) (withInboxes s (set (s .inboxes) g (drop 1 l))))
   receive-case g [] o e n = clash refl n
@@ -125,12 +131,14 @@ module _ (s : State) (r : Inv s) (P : Call → Outcome → Type 0) (k : Cases s 
       let l = open-below s g r o in
       k .whenReceived g x es l o e (received-came s g x es (omega (arith, r .inboxes)) e)
 
+  -- a bus start found the wire free and a head
   start-case : (w q : List Transmission) → s .wire ≡ w → s .queue ≡ q → ltb 0 (length w) ≡ false → eqb (length q) 0 ≡ false
       → P callBusStart (finish (started (headOf q .message)) (withQueue (withWire s (put 1 w (headOf q))) (drop 1 q)))
   start-case (x ∷ w) q a b c d = clash (lt-ltb 0 (length (x ∷ w)) (omega arith)) c
   start-case [] [] a b c d = clash refl d
   start-case [] (x ∷ q) a b c d = k .whenStarted x q a b (λ h. same-came h (stepFrom s callBusStart (finish (started (x .message)) (withQueue (withWire s (x ∷ [])) q))) refl refl)
 
+  -- a bus result found a message on the wire
   result-case : (status : ℕ) (counts : Counts) (w : List Transmission) → s .wire ≡ w → length w ≤ 1 → ltb 0 (length w) ≡ true → isFinal status ≡ true
       → P (callBusResult status counts) (finish done (concluded s (headOf w) status (keptCounts status counts)))
   result-case status counts [] e l c f = clash c refl
@@ -152,6 +160,7 @@ module _ (s : State) (r : Inv s) (P : Call → Outcome → Type 0) (k : Cases s 
     idle = i;
   })
 
+  -- every call
   pub by-cases : (c : Call) → P c (step s c)
   unfolding doOpen doClose doMode doTransmit doReceive doBusStart doBusResult doMessage doTime doConfigure doUnconfigure doListing doLookup
   by-cases (callOpen p) = checked (callOpen p) _ _ refl (λ z. open-case p (passed (eqb (lowestClosed s) (length (s .handles))) EMFILE 0 (omega arith) z .0))

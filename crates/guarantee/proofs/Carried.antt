@@ -38,6 +38,7 @@ sendingAs q h n s = sum (sentAs q h n) (pending s)
 unfoldable pub waitingAs : (Wait → Bool) → ℕ → ℕ → State → ℕ
 waitingAs q h n s = sum (awaitedAs q h n) (s .waits)
 
+-- no further test
 abbrev pub always : {A : Type 0} → A → Bool
 always x = true
 
@@ -55,6 +56,7 @@ placed h n s = last (sentAs always h n) (pending s)
 pub sent-owned : (q : Transmission → Bool) (h n : ℕ) → h < 8 → Owned (sentAs q h n)
 sent-owned q h n l m = rw (no-owner h l)
 
+-- each counts once
 pub sent-once : (h n : ℕ) (t : Transmission) → sentAs always h n t ≤ 1
 sent-once h n t = split (isFrom h n t) (λ e. rw e (omega arith)) (λ e. rw e (omega arith))
 

@@ -27,6 +27,7 @@ use Rattle.transmission.specs.declared.Transmission.{Transmission}
 use Rattle.guarantee.specs.Seen.{came, gave, opens, closes, opensTo, givesTo, givenBy, doneBy, isClose, isReceive, isBusResult, milliseconds}
 use Rattle.guarantee.proofs.Ends.{Ends}
 
+-- a call with its outcome, as a step of a history
 abbrev pub stepFrom : State → Call → Outcome → Step
 stepFrom s c o = record { before = s; call = c; answer = o .answer; after = o .state }
 
@@ -50,6 +51,7 @@ pub record Quiet (s : State) (c : Call) (a : Answer) (hs : List Handle) : Type 0
   pub number : (n : ℕ) → givesTo n a ≡ true → nextNumber s ≡ n
   pub idle : (n : ℕ) → a ≡ accepted n 0 → ⊥
 
+-- a transmit queued under the next number
 abbrev pub enqueued : State → ℕ → Request → State
 enqueued s g r = withLast (withQueue s (s .queue ++ (transmissionOf (nextNumber s) g r ∷ []))) (nextNumber s)
 
@@ -79,12 +81,14 @@ same-came h x i g =
     (λ e. rw e)
     (λ e. let z : length (inboxOf (x .before .inboxes) h) - 0 ≡ length (inboxOf (x .before .inboxes) h) = omega arith in rw (e, g, i, z) (drop-length (inboxOf (x .before .inboxes) h)))
 
+-- with a close: the handle's own inbox is emptied, another's is as it was
 pub closed-came : (s : State) (g : ℕ) → Silent s (callClose g) (finish done (closed s g))
 closed-came s g h =
     split (eqb g h)
     (λ e. rw e)
     (λ e. same-came h (stepFrom s (callClose g) (finish done (closed s g))) (getD-set-other (s .inboxes) g h [] [] (λ p. eqb-false g h e (sym p))) refl)
 
+-- with a receive: the rest of the inbox was there before
 pub received-came : (s : State) (g : ℕ) (e : Entry) (es : List Entry) → g < length (s .inboxes) → inboxOf (s .inboxes) g ≡ e ∷ es
     → Silent s (callReceive g) (finish (received e) (withInboxes s (set (s .inboxes) g es)))
 received-came s g x es l i h =

@@ -1,11 +1,12 @@
 -- Demand 3 holds of the rules, for any list of calls from a fresh adapter.
 -- Assumes nothing.
-use Prim.Native.Nat.{ℕ, zero, suc}
+use Prim.Native.Nat.{ℕ}
 use mathlib.Core.Bool.{true, false}
 use mathlib.Core.List.{List, [], _∷_, _++_}
 use mathlib.Core.Path.{_≡_, refl, ap, _∙_, sym}
 use native.Mathlib.Omega.{arith}
-use lib.ListN.{length, getD, replicate}
+use lib.ListN.{length}
+use Rattle.lists.specs.Elements.{getD-replicated}
 use Rattle.lists.specs.Sums.{any}
 use Rattle.lists.specs.Tests.{split, clash}
 use Rattle.entry.specs.declared.Entry.{Entry}
@@ -29,18 +30,14 @@ use Rattle.guarantee.proofs.Since.{no-open, since-open}
 use Rattle.guarantee.proofs.Totals.{kept}
 
 -- ---- a fresh adapter
-replicate-same : {A : Type 0} (n h : ℕ) (a : A) → getD (replicate n a) h a ≡ a
-replicate-same zero h a = refl
-replicate-same (suc n) zero a = refl
-replicate-same (suc n) (suc h) a = replicate-same n h a
-
+-- all handles are closed, and all inboxes empty
 fresh-closed : (c : Capabilities) (h : ℕ) → isOpen (fresh c) h ≡ false
 unfolding fresh
-fresh-closed c h = ap (λ (x : Handle). x .«is_open») (replicate-same 8 h closedHandle)
+fresh-closed c h = ap (λ (x : Handle). x .«is_open») (getD-replicated 8 h closedHandle)
 
 fresh-empty : (c : Capabilities) (h : ℕ) → length (inboxOf (fresh c .inboxes) h) ≡ 0
 unfolding fresh
-fresh-empty c h = ap length (replicate-same {A = List Entry} 8 h [])
+fresh-empty c h = ap length (getD-replicated {A = List Entry} 8 h [])
 
 pub fresh-inv : (c : Capabilities) → Inv (fresh c)
 unfolding fresh roomOwed repliesWanted carriedBy
@@ -69,6 +66,7 @@ transmits-kept c calls past x later e h r n k a =
     let runs : later ≡ run (step s (callTransmit h r) .state) (p .later) = p .runs ∙ ap (λ (y : Call). run (step s y .state) (p .later)) call in
     rw runs (fate h r n (step s (callTransmit h r) .state) (keeps s (callTransmit h r) i) (began s i h r n answer) (p .later))
 
+-- what came to an open handle
 inboxes-kept : (c : Capabilities) (calls : List Call) (past : List Step) (x : Step) → run (fresh c) calls ≡ past ++ x ∷ [] → (h : ℕ) → isOpen (x .after) h ≡ true
     → all (came h) (sinceOpen h (run (fresh c) calls)) ≡ all (gave h) (sinceOpen h (run (fresh c) calls)) ++ inboxOf (x .after .inboxes) h
 inboxes-kept c calls past x e h o =
@@ -80,5 +78,6 @@ inboxes-kept c calls past x e h o =
     (λ n. since-open h l (fresh c) calls i n q)
     (λ n. clash (no-open h l (fresh c) calls i n q .0) (fresh-closed c h)))
 
+-- the whole claim
 pub claim : Claim
 claim c calls = record { transmits = transmits-kept c calls; inboxes = inboxes-kept c calls }

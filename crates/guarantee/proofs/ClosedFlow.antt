@@ -65,6 +65,7 @@ module _ (h n : ℕ) (l : h < 8) (s : State) (g : ℕ) where
   closed-unwaiting : (q : Wait → Bool) → eqb g h ≡ true → sum (awaitedAs q h n) (closed s g .waits) ≡ 0
   closed-unwaiting q e = sum-keep (awaitedAs q h n) (λ w. not (ownedBy g w)) (s .waits) ∙ sum-zero (λ w. cond (not (ownedBy g w)) (awaitedAs q h n w) 0) (s .waits) (λ w. wait-none q w e)
 
+  -- the flow with a close
   pub close-flow : Silent s (callClose g) (finish done (closed s g)) → Flow h n s (callClose g) (finish done (closed s g))
   unfolding sendingAs waitingAs placed
   close-flow z =

@@ -79,6 +79,7 @@ room-closed-le s g h l =
       sum-keep-le (λ w. bit (ownedBy h w)) (λ w. not (ownedBy g w)) (s .waits),
     )
 
+-- a close keeps the invariant
 pub closed-kept : (s : State) (g : ℕ) → g < 8 → Inv s → Inv (closed s g)
 unfolding repliesWanted carriedBy
 closed-kept s g l r = record {

@@ -48,12 +48,15 @@ comes-then h l s t u es c o a = record {
 
 -- transmissions end with results and waits with replies, after copies: what the handle was owed for them is what it gets
 module _ (resultOf : Transmission → Entry) (replyOf : Wait → Entry) where
+  -- the results and replies to handle h
   abbrev pub entriesTo : ℕ → List Transmission → List Wait → List Entry
   entriesTo h sent over = map resultOf (keep (λ t. eqb (t .owner) h) sent) ++ map replyOf (keep (ownedBy h) over)
 
+  -- all of them delivered, results first
   abbrev pub posted : State → List Transmission → List Wait → State
   posted s sent over = each (post (λ (w : Wait). w .owner) replyOf) (each (post (λ (t : Transmission). t .owner) resultOf) s sent) over
 
+  -- they find their room
   pub comes : (h : ℕ) → h < 8 → (s c s′ t : State) (sent : List Transmission) (over : List Wait) → Inv s → Aside s c → s′ .inboxes ≡ c .inboxes → t .inboxes ≡ posted s′ sent over .inboxes
       → owedRoom t h + count (λ x. eqb (x .owner) h) sent + count (ownedBy h) over ≤ owedRoom s h → Comes h s t (entriesTo h sent over)
   comes h l s c s′ t sent over r a e q o =

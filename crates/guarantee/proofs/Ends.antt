@@ -44,6 +44,7 @@ pub record Replies (number : ℕ) (e : Entry) : Type 0 where
   pub transmitted : e .«tx_status» ≡ 0
   pub received : e .«rx_status» ≢ 0
 
+-- what shows a receive status and no other
 pub shown-reply : {n rx : ℕ} {e : Entry} → Shows n 0 rx e → rx ≢ 0 → Replies n e
 shown-reply x d = record { sequence = x .sequence; transmitted = x .transmitted; received = λ z. d (sym (x .received) ∙ z) }
 

@@ -10,7 +10,7 @@ use lib.Dec.{eqb, ltb}
 use borrow.Author.Tests.{ltb-true, ltb-false, eqb-true, eqb-false}
 use Rattle.lists.specs.Spread.{upto-one}
 use Rattle.lists.specs.Sums.{sum-append, sum-le, count}
-use Rattle.lists.specs.Tests.{bit, split}
+use Rattle.lists.specs.Tests.{bit, split, none-bit}
 use Rattle.entry.specs.declared.Entry.{Entry}
 use Rattle.rules.specs.Call.{Call, Request}
 use Rattle.rules.specs.Cases.{after}
@@ -28,12 +28,13 @@ use Rattle.guarantee.proofs.Flows.{flow}
 use Rattle.guarantee.proofs.Invariant.{Inv}
 use Rattle.guarantee.proofs.Keeps.{keeps}
 use Rattle.guarantee.proofs.Parts.{parted, own-parted, own-after}
-use Rattle.guarantee.proofs.Totals.{none-bit, nobody, own-results, all-results, placed-most, own-replies, all-replies, closed-results, closed-replies, kept-results, kept-alike, kept-waits, kept-oks, kept}
+use Rattle.guarantee.proofs.Totals.{nobody, own-results, all-results, placed-most, own-replies, all-replies, closed-results, closed-replies, kept-results, kept-alike, kept-waits, kept-oks, kept}
 
 -- what comes to all handles is what comes to one, if nothing comes to the others
 one-handle : (p : Entry → Bool) (h : ℕ) (xs : List Step) → h < 8 → ((g : ℕ) → g < 8 → g ≢ h → cameTo p g xs ≡ 0) → cameToAny p xs ≡ cameTo p h xs
 one-handle p h xs l e = omega (arith, upto-one (λ g. cameTo p g xs) h 8 l e)
 
+-- or nothing at all
 no-handle : (p : Entry → Bool) (xs : List Step) → ((g : ℕ) → g < 8 → cameTo p g xs ≡ 0) → cameToAny p xs ≡ 0
 no-handle p xs e = omega (arith, upto-one (λ g. cameTo p g xs) 0 8 (omega arith) (λ g l _. e g l), e 0 (omega arith))
 
@@ -42,6 +43,7 @@ one-step : (p : Entry → Bool) (xs : List Step) (y : Step) (ys : List Step) →
 one-step p xs y ys = sum-le (λ g. cameTo p g (y ∷ [])) (λ g. cameTo p g (xs ++ y ∷ ys)) handleNumbers (λ g. omega (arith, sum-append (λ z. count p (came g z)) xs (y ∷ ys)))
 
 module _ (h : ℕ) (x : Request) (n : ℕ) (s : State) (r : Inv s) (b : Began h x n s) (cs : List Call) where
+  -- results and replies under the number come to its handle alone
   others-results : (g : ℕ) → g < 8 → g ≢ h → cameTo (isResult n) g (own n (run s cs)) ≡ 0
   others-results g l e = omega (arith, own-results g n l (b .some) s cs r, b .others g e)
 
@@ -61,6 +63,7 @@ module _ (h : ℕ) (x : Request) (n : ℕ) (s : State) (r : Inv s) (b : Began h 
       (λ q. (others-results g (ltb-true g 8 q) e, others-replies g (ltb-true g 8 q) e))
       (λ q. (nobody (isResult n) g n (ltb-false g 8 q) s cs r, nobody (isReplyEntry n) g n (ltb-false g 8 q) s cs r))
 
+  -- at most one result, and one after nineteen bus results
   result-once : results n (own n (run s cs)) ≤ 1
   result-once = omega (arith, results-here, own-results h n (b .home) (b .some) s cs r, b .one)
 
@@ -69,6 +72,7 @@ module _ (h : ℕ) (x : Request) (n : ℕ) (s : State) (r : Inv s) (b : Began h 
       let p = placed-most h n (b .home) (b .some) s r in
       omega (arith, results-here, b .one, all-results h n (b .home) (b .some) s cs r z (omega arith))
 
+  -- at most one reply
   reply-once : replies n (own n (run s cs)) ≤ 1
   reply-once = omega (arith, replies-here, own-replies h n (b .home) (b .some) s cs r, b .quiet h, b .one, sending-less wanting h n s)
 
@@ -82,6 +86,7 @@ module _ (h : ℕ) (x : Request) (n : ℕ) (s : State) (r : Inv s) (b : Began h 
         let o = kept-oks g n l (b .some) s ds in
         omega (arith, b .others g e, b .quiet g)
 
+    -- so no result with the OK bit comes to another
     others-ok : (c : Call) (g : ℕ) → g < 8 → g ≢ h → cameTo (isOkResult n) g (stepOf (after s ds) c ∷ []) ≡ 0
     unfolding brought
     others-ok c g l e =
@@ -134,12 +139,14 @@ module _ (h : ℕ) (x : Request) (n : ℕ) (s : State) (r : Inv s) (b : Began h 
 
   -- ---- a result with the OK bit at the call c, and time enough after it
   module _ (ds : List Call) (c : Call) (es : List Call) where
+    -- the states before and after that call
     abbrev before : State
     before = after s ds
 
     abbrev then : State
     then = step before c .state
 
+    -- then there is one reply
     reply-comes : count (gives n) (run s ds) ≡ 0 → 1 ≤ okResults n (stepOf before c ∷ []) → wantsReply x ≡ true → closings h (run s ds ++ stepOf before c ∷ run then es) ≡ 0 → timeoutOf x ≤ elapsed (run then es)
         → cameTo (isReplyEntry n) h (own n (run s ds ++ stepOf before c ∷ run then es)) ≡ 1
     unfolding brought
@@ -156,7 +163,7 @@ module _ (h : ℕ) (x : Request) (n : ℕ) (s : State) (r : Inv s) (b : Began h 
         let ku = kept-alike h n l d unwanting s ds r z in
         let kt = kept-alike h n l d (longer (timeoutOf x)) s ds r z in
         let cl = sum-append (λ y. bit (closes h y)) (run s ds) (stepOf before c ∷ run then es) in
-        let cc = none-bit (doneBy (isClose h c) (step before c .answer)) (omega arith) in
+        let kc = none-bit (doneBy (isClose h c) (step before c .answer)) (omega arith) in
         rw (own-after n (run s ds) (stepOf before c ∷ run then es) z)
         (split (givesTo n (step before c .answer))
         (λ e. absurd (omega (arith, f .given e .0, f .resultsOf)))
@@ -166,7 +173,7 @@ module _ (h : ℕ) (x : Request) (n : ℕ) (s : State) (r : Inv s) (b : Began h 
         let fo = f .resultsOf in
         let fp = f .repliesOf in
         let fq = f .replies in
-        let fa = f .allReplies cc in
+        let fa = f .allReplies kc in
         let al = all-replies h n l d then es (timeoutOf x - milliseconds c) (keeps before c v) (omega (arith, b .one)) (omega (arith, f .time (timeoutOf x), b .timeout, b .quiet h, b .one)) (omega arith) (omega arith) in
         omega (
           arith,

@@ -19,6 +19,7 @@ use Rattle.guarantee.proofs.Carried.{sentAs, awaitedAs, always, sending
 use Rattle.guarantee.proofs.Cases.{Silent}
 use Rattle.guarantee.proofs.Invariant.{Inv, next-unused}
 
+-- a transmission that wants a reply, and one that does not
 abbrev pub wanting : Transmission → Bool
 wanting t = t .«wants_reply»
 

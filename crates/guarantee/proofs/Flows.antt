@@ -32,7 +32,7 @@ use Rattle.guarantee.proofs.Invariant.{Inv}
 use Rattle.guarantee.proofs.QueuedKept.{pending-queued, sum-queued}
 
 module _ (h n : ℕ) (l : h < 8) (d : n ≢ 0) (s : State) (r : Inv s) where
-  -- ---- transmit
+  -- ---- transmit: one that is given another number is of another number
   queued-other : (g : ℕ) (x : Request) (q : Transmission → Bool) → eqb (nextNumber s) n ≡ false → sentAs q h n (transmissionOf (nextNumber s) g x) ≡ 0
   queued-other g x q e = rw (e, and-false)
 
@@ -60,7 +60,7 @@ module _ (h n : ℕ) (l : h < 8) (d : n ≢ 0) (s : State) (r : Inv s) where
         closing = λ k. clash k refl;
       }
 
-  -- ---- what ends transmissions and waits
+  -- ---- what ends transmissions and waits: a wait begins of a result with the OK bit, of a transmission that wants a reply, and of each such
   begins-ok : (status : ℕ) (x : Transmission) → begins (awaitedAs always h n) status x ≤ cond (hasBit CEC-TX-STATUS-OK status) (sentAs always h n x) 0
   begins-ok status x =
       split (hasBit CEC-TX-STATUS-OK status)
@@ -79,6 +79,7 @@ module _ (h n : ℕ) (l : h < 8) (d : n ≢ 0) (s : State) (r : Inv s) where
       (λ e. split (x .«wants_reply») (λ q. rw (e, q) (omega arith)) (λ q. rw (e, q) (omega arith)))
       (λ e. rw e (omega arith))
 
+  -- the flow with a call that ends transmissions and waits
   ended-flow : (c : Call) (t : State) → Ends s c t → Flow h n s c (finish done t)
   unfolding sendingAs waitingAs placed
   ended-flow c t e =

@@ -2,17 +2,16 @@
 -- Assumes nothing.
 use Prim.Native.Nat.{ℕ, _+_, _≤_, _<_}
 use mathlib.Core.Bool.{Bool, true, false, cond, _&&_, _||_, not}
-use mathlib.Core.List.{List, [], _∷_}
 use mathlib.Core.Logic.{_≢_}
-use mathlib.Core.Path.{_≡_, refl, ap}
+use mathlib.Core.Path.{_≡_, ap}
 use native.Mathlib.Omega.{arith}
 use lib.Dec.{eqb, ltb, leb}
 use lib.ListN.{length, length-append, List·getD-eq-default}
 use borrow.Author.Tests.{ltb-true, ltb-false, leb-true, le-ltb}
 use Rattle.lists.specs.Pigeonhole.{upto}
 use Rattle.lists.specs.Spread.{spread}
-use Rattle.lists.specs.Sums.{sum, sum-le, sum-same, count}
-use Rattle.lists.specs.Tests.{bit, split, clash}
+use Rattle.lists.specs.Sums.{sum, length-sum, sum-le, sum-same, count}
+use Rattle.lists.specs.Tests.{bit, split, clash, cond-bit}
 use Rattle.handle.specs.declared.Handle.{Handle}
 use Rattle.rules.specs.Handles.{isOpen}
 use Rattle.rules.specs.Number.{nextNumber}
@@ -28,6 +27,7 @@ use Rattle.wait.specs.declared.Wait.{Wait}
 abbrev pub isProper : Transmission → Bool
 isProper t = cond (ltb (t .owner) 8) (not (eqb (t .number) 0) && (not (t .«wants_reply») || not (eqb (t .timeout) 0))) (eqb (t .number) 0 && not (t .«wants_reply»))
 
+-- 1 for one that is not so
 abbrev pub improper : Transmission → ℕ
 improper t = bit (not (isProper t))
 
@@ -62,14 +62,7 @@ open-below s g r e =
     (λ l. clash e (ap (λ (x : Handle). x .«is_open») (List·getD-eq-default (s .handles) closedHandle {n = g} (omega (arith, r .handles, ltb-false g 8 l)))))
 
 -- ---- the waits are few: those that wait and those that want a reply are at most 4 for each handle
-length-sum : {A : Type 0} (xs : List A) → length xs ≡ sum (λ x. 1) xs
-length-sum [] = refl
-length-sum (x ∷ xs) = omega (arith, length-sum xs)
-
-choice-bit : (b : Bool) → cond b 1 0 ≡ bit b
-choice-bit true = refl
-choice-bit false = refl
-
+-- a wait without a handle, and a transmission without one that wants a reply, is improper
 away-improper : (w : Wait) → cond (leb 8 (w .owner)) 1 0 ≤ improperWait w
 away-improper w =
     split (leb 8 (w .owner))
@@ -85,9 +78,10 @@ wants-improper t =
     (λ q. rw q (omega arith))))
     (λ e. rw e (omega arith))
 
+-- all waits are those of the handles together, and all wanted replies too
 waits-spread : (s : State) → Inv s → length (s .waits) ≤ upto (λ h. count (ownedBy h) (s .waits)) 8
 waits-spread s r =
-    let same : (h : ℕ) → sum (λ (w : Wait). cond (eqb (w .owner) h) 1 0) (s .waits) ≡ count (ownedBy h) (s .waits) = λ h. sum-same (λ (w : Wait). cond (eqb (w .owner) h) 1 0) (λ w. bit (ownedBy h w)) (s .waits) (λ w. choice-bit (eqb (w .owner) h)) in
+    let same : (h : ℕ) → sum (λ (w : Wait). cond (eqb (w .owner) h) 1 0) (s .waits) ≡ count (ownedBy h) (s .waits) = λ h. sum-same (λ (w : Wait). cond (eqb (w .owner) h) 1 0) (λ w. bit (ownedBy h w)) (s .waits) (λ w. cond-bit (eqb (w .owner) h)) in
     omega (
       arith,
       length-sum (s .waits),
@@ -113,6 +107,7 @@ wants-spread s r =
       r .transmissions,
     )
 
+-- so there are at most 32 of both together
 pub few : (s : State) → Inv s → length (s .waits) + sum (λ (t : Transmission). bit (t .«wants_reply»)) (pending s) ≤ 32
 unfolding repliesWanted
 few s r =
@@ -131,6 +126,7 @@ few s r =
       a 7 (omega arith),
     )
 
+-- 18 queued and 1 on the wire
 pub few-pending : (s : State) → Inv s → length (pending s) ≤ 19
 few-pending s r = omega (arith, length-append (s .wire) (s .queue), r .queued, r .wired)
 

@@ -59,11 +59,13 @@ quiet-kept : (s : State) (c : Call) (a : Answer) (hs : List Handle) (last : ℕ)
 quiet-kept s c a hs last x noted r q =
     same-kept s (calm s hs last x noted) r (q .handles ∙ r .handles) (r .inboxes) (r .queued) (r .wired) refl refl (λ h. omega arith) (λ h e. sym (q .still h) ∙ e)
 
+-- an open
 opened-kept : (s : State) (i : ℕ) (p : Bool) → Inv s → Inv (withHandles s (set (s .handles) i (openedHandle p)))
 opened-kept s i p r =
     same-kept s (withHandles s (set (s .handles) i (openedHandle p))) r (length-set (s .handles) i (openedHandle p) ∙ r .handles) (r .inboxes) (r .queued) (r .wired) refl refl (λ h. omega arith)
     (λ h e. set-rel (λ (x y : Handle). x .«is_open» ≡ false → y .«is_open» ≡ false) (λ x z. z) (s .handles) i h (openedHandle p) closedHandle (λ z. clash refl z) e)
 
+-- a receive
 received-kept : (s : State) (g : ℕ) (x : Entry) (es : List Entry) → inboxOf (s .inboxes) g ≡ x ∷ es → Inv s → Inv (withInboxes s (set (s .inboxes) g es))
 received-kept s g x es i r =
     same-kept s (withInboxes s (set (s .inboxes) g es)) r (r .handles) (length-set (s .inboxes) g es ∙ r .inboxes) (r .queued) (r .wired) refl refl
@@ -99,6 +101,7 @@ begins-asked h status x =
     (λ e. rw e (omega arith)))
     (λ q. split (hasBit CEC-TX-STATUS-OK status) (λ e. rw (e, q) (omega arith)) (λ e. rw e (omega arith)))
 
+-- a call that ends transmissions and waits
 ended-kept : (s t : State) (c : Call) → Inv s → Ends s c t → Inv t
 unfolding repliesWanted carriedBy
 ended-kept s t c r e = record {

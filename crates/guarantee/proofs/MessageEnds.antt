@@ -88,6 +88,7 @@ module _ (s : State) (r : Inv s) (m : Message) (k : ℕ) (bytes : List ℕ) wher
     abbrev after : State
     after = deliver (withWaits c rest) (wait .owner) (replyOf wait)
 
+    -- its handle is owed less by the reply that it gets
     owed-less : (h : ℕ) → h < 8 → owedRoom after h + 0 + count (ownedBy h) (wait ∷ []) ≤ owedRoom s h
     unfolding roomOwed
     owed-less h q = omega (arith, aside-sum (roomFor h) (room-owned h q) s c a, sum-without (λ w. bit (ownedBy h w)) i (s .waits) noWait l)
@@ -122,6 +123,7 @@ module _ (s : State) (r : Inv s) (m : Message) (k : ℕ) (bytes : List ℕ) wher
   abbrev later : State → Taken → State
   later t x = refusedMessage (followed (answers (notes t m) m) x m) x m
 
+  -- they end no wait
   later-aside : (t : State) (x : Taken) → Aside t (later t x)
   later-aside t x =
       let b = notes t m in
@@ -148,6 +150,7 @@ module _ (s : State) (r : Inv s) (m : Message) (k : ℕ) (bytes : List ℕ) wher
           let e : replied c (takenAt i (s .waits)) m ≡ c = rw q in
           rw e (aside-ends s _ call r (aside-trans s c _ a (later-aside c (takenAt i (s .waits)))) (λ h. refl) refl refl)
 
+  -- a message that is taken
   pub message-ends : Ends s call (heard s m)
   unfolding heard matchTaken
   message-ends =

@@ -4,7 +4,8 @@ use Prim.Native.Nat.{ℕ}
 use mathlib.Core.List.{List, [], _∷_, _++_}
 use mathlib.Core.Path.{_≡_, refl, ap, ap₂, sym}
 use native.Mathlib.Omega.{arith}
-use lib.ListN.{length, length-append}
+use lib.ListN.{length}
+use Rattle.lists.specs.Elements.{empty-not}
 use Rattle.lists.specs.Sums.{count}
 use Rattle.lists.specs.Tests.{bit, split}
 use Rattle.rules.specs.Call.{Call}
@@ -12,10 +13,6 @@ use Rattle.rules.specs.Cases.{after}
 use Rattle.rules.specs.State.{State}
 use Rattle.rules.specs.Step.{Step, step, stepOf, run}
 use Rattle.guarantee.specs.Seen.{gives, givesTo, own}
-
-module _ {A : Type 0} where
-  empty-not : (xs : List A) (y : A) (ys : List A) → _≡_ {A = List A} [] (xs ++ y ∷ ys) → ⊥
-  empty-not xs y ys e = let z = ap length e in let n = length-append xs (y ∷ ys) in omega arith
 
 -- the calls before a step, its own, and those after it
 pub record Parted (s : State) (past : List Step) (x : Step) (rest : List Step) : Type 0 where
@@ -26,9 +23,11 @@ pub record Parted (s : State) (past : List Step) (x : Step) (rest : List Step) :
   pub here : x ≡ stepOf (after s before) call
   pub runs : rest ≡ run (step (after s before) call .state) later
 
+-- two lists that are equal begin and go on alike
 heads : (x y : Step) (xs ys : List Step) → x ∷ xs ≡ y ∷ ys → (x ≡ y) × (xs ≡ ys)
 heads x y xs ys e = (cc, cc)
 
+-- a history taken apart anywhere
 pub parted : (s : State) (cs : List Call) (past : List Step) (x : Step) (rest : List Step) → run s cs ≡ past ++ x ∷ rest → Parted s past x rest
 parted s [] past x rest e = absurd (empty-not past x rest e)
 parted s (c ∷ cs) [] x rest e =
@@ -49,6 +48,7 @@ pub record OwnParted (n : ℕ) (s : State) (past : List Step) (x : Step) (rest :
   pub runs : x ∷ rest ≡ own n (run (after s before) (call ∷ later))
   pub ungiven : count (gives n) (run s before) ≡ 0
 
+-- so too the calls that belong to number n
 pub own-parted : (n : ℕ) (s : State) (cs : List Call) (past : List Step) (x : Step) (rest : List Step) → own n (run s cs) ≡ past ++ x ∷ rest → OwnParted n s past x rest
 own-parted n s [] past x rest e = absurd (empty-not past x rest e)
 own-parted n s (c ∷ cs) [] x rest e =

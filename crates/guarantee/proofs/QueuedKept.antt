@@ -28,6 +28,7 @@ use Rattle.guarantee.proofs.Invariant.{Inv, improper, next-unused, next
 pub pending-queued : (s : State) (g : ℕ) (x : Request) → pending (enqueued s g x) ≡ pending s ++ (transmissionOf (nextNumber s) g x ∷ [])
 pending-queued s g x = sym (append-assoc (s .wire) (s .queue) (transmissionOf (nextNumber s) g x ∷ []))
 
+-- a weight over what is pending has the new one's more
 pub sum-queued : (f : Transmission → ℕ) (s : State) (g : ℕ) (x : Request) → sum f (pending (enqueued s g x)) ≡ sum f (pending s) + f (transmissionOf (nextNumber s) g x)
 sum-queued f s g x = rw (pending-queued s g x) (omega (arith, sum-append f (pending s) (transmissionOf (nextNumber s) g x ∷ [])))
 
@@ -38,9 +39,11 @@ timeout-some x =
     (λ t. split (eqb (x .reply) 0) (λ e. rw (e, t)) (λ e. rw (e, t)))
     (λ t. split (eqb (x .reply) 0) (λ e. rw (e, t, t)) (λ e. rw (e, t, t)))
 
+-- it is proper
 queued-proper : (n g : ℕ) (x : Request) → n ≢ 0 → g < 8 → improper (transmissionOf n g x) ≡ 0
 queued-proper n g x d l = rw (lt-ltb g 8 l, ne-eqb n 0 d, timeout-some x)
 
+-- a transmit that found a place and room keeps the invariant
 pub queued-kept : (s : State) (g : ℕ) (x : Request) → g < 8 → isOpen s g ≡ true → length (s .queue) < 18 → (wantsReply x ≡ true → wantedReplies s g < 4) → roomTaken s g + (1 + bit (wantsReply x)) ≤ 16 → Inv s → Inv (enqueued s g x)
 unfolding repliesWanted roomOwed carriedBy
 queued-kept s g x l o f w m r =

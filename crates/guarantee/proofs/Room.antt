@@ -2,12 +2,12 @@
 -- Assumes nothing.
 use Prim.Native.Nat.{ℕ, _+_, _≤_, _<_}
 use mathlib.Core.List.{List, [], _∷_, _++_}
-use mathlib.Core.Path.{_≡_, refl, ap, _∙_}
+use mathlib.Core.Path.{_≡_, refl, ap}
 use native.Mathlib.Omega.{arith}
 use lib.Dec.{eqb, ltb}
 use lib.ListN.{length}
 use borrow.Author.Tests.{ltb-true}
-use Rattle.lists.specs.Sums.{sum, sum-append, sum-le, count}
+use Rattle.lists.specs.Sums.{sum-one-of, sum-le, count}
 use Rattle.lists.specs.Tests.{bit, split, eqb-refl}
 use Rattle.entry.specs.Entry.{noCounts, result, resultCopy, timedOut, aborted, messageCopy}
 use Rattle.entry.specs.declared.Entry.{Entry}
@@ -36,15 +36,11 @@ use Rattle.guarantee.proofs.TimeEnds.{sum-time}
 use Rattle.guarantee.proofs.Totals.{kept}
 use Rattle.guarantee.proofs.UnconfigureEnds.{owed-each}
 
--- one of several has its own weight in their sum
-one-of : {A : Type 0} (f : A → ℕ) (xs past : List A) (x : A) (rest : List A) → xs ≡ past ++ x ∷ rest → sum f xs ≡ sum f past + (f x + sum f rest)
-one-of f xs past x rest e = ap (sum f) e ∙ sum-append f past (x ∷ rest)
-
 -- entries to several handles: where there is room for all those to one of them, each of these finds room
 each-room : {A : Type 0} (to : A → ℕ) (entry : A → Entry) (s : State) (xs past : List A) (x : A) (rest : List A) → xs ≡ past ++ x ∷ rest → to x < length (s .inboxes)
     → length (inboxOf (s .inboxes) (to x)) + count (λ y. eqb (to y) (to x)) xs ≤ 16 → HasRoom (to x) (each (post to entry) s past)
 each-room to entry s xs past x rest e l r =
-    let o = one-of (λ y. bit (eqb (to y) (to x))) xs past x rest e in
+    let o = sum-one-of (λ y. bit (eqb (to y) (to x))) xs past x rest e in
     let b = ap bit (eqb-refl (to x)) in
     omega (arith, posts-length to entry (to x) s past l (omega arith))
 
@@ -63,27 +59,30 @@ module _ (s : State) (r : Inv s) where
   -- room is owed for each transmission that is pending, and for each wait
   owed-transmit : (past : List Transmission) (t : Transmission) (rest : List Transmission) → pending s ≡ past ++ t ∷ rest → 1 ≤ owedRoom s (t .owner)
   unfolding roomOwed
-  owed-transmit past t rest e = omega (arith, one-of (roomFor (t .owner)) (pending s) past t rest e, owed-each (t .owner) t, ap bit (eqb-refl (t .owner)))
+  owed-transmit past t rest e = omega (arith, sum-one-of (roomFor (t .owner)) (pending s) past t rest e, owed-each (t .owner) t, ap bit (eqb-refl (t .owner)))
 
   owed-wait : (past : List Wait) (w : Wait) (rest : List Wait) → s .waits ≡ past ++ w ∷ rest → 1 ≤ owedRoom s (w .owner)
   unfolding roomOwed
-  owed-wait past w rest e = omega (arith, one-of (λ v. bit (ownedBy (w .owner) v)) (s .waits) past w rest e, ap bit (eqb-refl (w .owner)))
+  owed-wait past w rest e = omega (arith, sum-one-of (λ v. bit (ownedBy (w .owner) v)) (s .waits) past w rest e, ap bit (eqb-refl (w .owner)))
 
+  -- the owner of a wait is a handle
   home : (past : List Wait) (w : Wait) (rest : List Wait) → s .waits ≡ past ++ w ∷ rest → w .owner < 8
-  home past w rest e = wait-home w (omega (arith, one-of improperWait (s .waits) past w rest e, r .waiting))
+  home past w rest e = wait-home w (omega (arith, sum-one-of improperWait (s .waits) past w rest e, r .waiting))
 
   -- the transmissions and waits of a handle fit its inbox together
   fits : (h : ℕ) → h < 8 → length (inboxOf (s .inboxes) h) + count (λ (t : Transmission). eqb (t .owner) h) (pending s) + count (ownedBy h) (s .waits) ≤ 16
   unfolding roomOwed
   fits h l = omega (arith, r .room h l, sum-le (λ (t : Transmission). bit (eqb (t .owner) h)) (roomFor h) (pending s) (owed-each h))
 
+  -- when time ends waits
   timeout-room : (ms : ℕ) (past : List Wait) (w : Wait) (rest : List Wait) → overdue ms (s .waits) ≡ past ++ w ∷ rest → HasRoom (w .owner) (each timeOut (withWaits s (remaining ms (s .waits))) past)
   timeout-room ms past w rest e =
       let own = sum-time ms improperWait (λ k v. refl) (s .waits) in
-      let l = wait-home w (omega (arith, one-of improperWait (overdue ms (s .waits)) past w rest e, r .waiting)) in
+      let l = wait-home w (omega (arith, sum-one-of improperWait (overdue ms (s .waits)) past w rest e, r .waiting)) in
       each-room (λ (v : Wait). v .owner) (λ v. timedOut (v .number) (v .sent)) (withWaits s (remaining ms (s .waits))) (overdue ms (s .waits)) past w rest e (omega (arith, r .inboxes))
       (omega (arith, fits (w .owner) l, sum-time ms (λ v. bit (ownedBy (w .owner) v)) (λ k v. refl) (s .waits)))
 
+  -- when an unconfigure ends transmissions, and then waits
   transmit-room : (past : List Transmission) (t : Transmission) (rest : List Transmission) → pending s ≡ past ++ t ∷ rest → t .owner < 8 → HasRoom (t .owner) (each abortTransmit (unset s) past)
   transmit-room past t rest e l =
       each-room (λ (x : Transmission). x .owner) (λ x. result (x .number) CEC-TX-STATUS-ABORTED noCounts (x .message)) (unset s) (pending s) past t rest e (omega (arith, r .inboxes))
@@ -99,6 +98,7 @@ module _ (s : State) (r : Inv s) where
       each-room (λ (v : Wait). v .owner) (λ v. aborted (v .number) (v .sent)) (each abortTransmit (unset s) (pending s)) (s .waits) past w rest e (omega (arith, posts-boxes to entry (unset s) (pending s), r .inboxes))
       (omega arith)
 
+  -- wherever the invariant holds
   room : Room s
   room = record {
     owed = r .room;
@@ -112,5 +112,6 @@ module _ (s : State) (r : Inv s) where
     wire = r .wired;
   }
 
+-- so in every state that calls lead to
 pub always-room : AlwaysRoom
 always-room c calls = room (after (fresh c) calls) (kept (fresh c) calls (fresh-inv c))

@@ -7,9 +7,10 @@ use mathlib.Core.Logic.{_≢_}
 use mathlib.Core.Path.{_≡_, refl, ap, _∙_, sym}
 use native.Mathlib.Omega.{arith}
 use lib.Dec.{eqb}
-use lib.ListN.{length, set}
+use lib.ListN.{set}
 use lib.Seq.{getD-set-same, getD-set-other}
 use borrow.Author.Tests.{eqb-true, eqb-false}
+use Rattle.lists.specs.Elements.{empty-list}
 use Rattle.lists.specs.Sums.{any}
 use Rattle.lists.specs.Tests.{split, clash, neither}
 use Rattle.entry.specs.declared.Entry.{Entry}
@@ -49,10 +50,7 @@ module _ (h : ℕ) (l : h < 8) (s : State) (r : Inv s) where
     new = λ a. clash a n;
   }
 
-  empty-list : {A : Type 0} (xs : List A) → length xs ≡ 0 → xs ≡ []
-  empty-list [] e = refl
-  empty-list (x ∷ xs) e = absurd (omega arith)
-
+  -- open, close, receive, and the calls that end transmissions and waits
   opened-order : (i : ℕ) (p : Bool) → isOpen s i ≡ false → Silent s (callOpen p) (finish (opened i) (withHandles s (set (s .handles) i (openedHandle p)))) → InOrder h s (callOpen p) (finish (opened i) (withHandles s (set (s .handles) i (openedHandle p))))
   opened-order i p c z = record {
     order = λ _. rw (z h) (append-nil (inboxOf (s .inboxes) h));
@@ -93,6 +91,7 @@ module _ (h : ℕ) (l : h < 8) (s : State) (r : Inv s) where
     new = λ n. clash n refl;
   }
 
+  -- every call
   order-cases : Cases s (InOrder h s)
   order-cases = record {
     whenQuiet = λ c a hs last x noted q z. same-order c _ z refl (q .noGift h) (q .still h) (q .noClose h) (q .noOpen h);

@@ -48,6 +48,7 @@ module _ (ms : ℕ) where
       sum-map f (reduced ms) (keep (λ w. not (leb (leftOf w) ms)) ws)
       ∙ sum-keep (λ w. f (reduced ms w)) (λ w. not (leb (leftOf w) ms)) ws
 
+  -- a wait that goes on has time left, less by the time that passed
   left-some : (w : Wait) → cond (not (leb (leftOf w) ms)) (spent (reduced ms w)) 0 ≡ 0
   left-some w =
       split (leb (leftOf w) ms)
@@ -64,6 +65,7 @@ module _ (ms : ℕ) where
       (λ z. rw (e, q, z, le-ltb (b - ms) (w .left - ms) (omega (arith, ltb-false b (w .left) z))) (omega arith)))
       (λ q. rw (e, q) (omega arith)))
 
+  -- a handle is owed less by the entries that it gets
   owed-time : (s : State) (h : ℕ) → owedRoom (withWaits s (remaining ms (s .waits))) h + 0 + count (ownedBy h) (overdue ms (s .waits)) ≤ owedRoom s h
   unfolding roomOwed
   owed-time s h = omega (arith, sum-time (λ w. bit (ownedBy h w)) (λ k w. refl) (s .waits))
@@ -101,6 +103,7 @@ module _ (ms : ℕ) where
         );
       }
 
+  -- time that passes
   pub time-ends : (s : State) → Inv s → Ends s (callTime ms) (each timeOut (withWaits s (remaining ms (s .waits))) (overdue ms (s .waits)))
   time-ends s r =
       rw (posts-only (λ (w : Wait). w .owner) (λ w. timedOut (w .number) (w .sent)) (withWaits s (remaining ms (s .waits))) (overdue ms (s .waits)))

@@ -1,7 +1,7 @@
 -- Totals over the calls of a history, for a handle and a number: what the transmissions and waits at its start bring.
 -- Assumes nothing.
 use Prim.Native.Nat.{ℕ, _+_, _-_, _≤_, _<_}
-use mathlib.Core.Bool.{Bool, true, false, _||_}
+use mathlib.Core.Bool.{Bool, true, _||_}
 use mathlib.Core.List.{List, [], _∷_}
 use mathlib.Core.Logic.{_≢_}
 use mathlib.Core.Path.{_≡_, refl, ap}
@@ -12,7 +12,7 @@ use lib.Seq.{drop-nil}
 use borrow.Author.Tests.{eqb-false, lt-ltb}
 use Rattle.lists.specs.Last.{last-none, last-le}
 use Rattle.lists.specs.Sums.{sum-le, sum-plus, count}
-use Rattle.lists.specs.Tests.{bit, split}
+use Rattle.lists.specs.Tests.{split, none-bit}
 use Rattle.entry.specs.declared.Entry.{Entry}
 use Rattle.inbox.specs.Inboxes.{inboxOf}
 use Rattle.rules.specs.Call.{Call}
@@ -29,10 +29,6 @@ use Rattle.guarantee.proofs.Flow.{wanting, unwanting, longer, later}
 use Rattle.guarantee.proofs.Flows.{flow}
 use Rattle.guarantee.proofs.Invariant.{Inv, spent, few-pending}
 use Rattle.guarantee.proofs.Keeps.{keeps}
-
-pub none-bit : (b : Bool) → bit b ≡ 0 → b ≡ false
-none-bit true e = absurd (omega arith)
-none-bit false e = refl
 
 -- nothing comes to a number over 7
 nobody-came : (g : ℕ) (x : Step) → 8 ≤ g → length (x .after .inboxes) ≡ 8 → came g x ≡ []
@@ -62,10 +58,12 @@ module _ (h n : ℕ) (l : h < 8) (d : n ≢ 0) where
       (λ e. rw e (omega (arith, f .resultsOf)))
       (λ e. rw e (omega (arith, f .results e)))
 
+  -- what has no place is not to be sent
   none-placed : (s : State) → placed h n s ≡ 0 → sending h n s ≡ 0
   unfolding placed sendingAs
   none-placed s e = last-none (sentAs always h n) (pending s) e
 
+  -- all of them come once as many bus results came as it takes
   pub all-results : (s : State) (cs : List Call) → Inv s → closings h (run s cs) ≡ 0 → placed h n s ≤ busResults (run s cs) → cameTo (isResult n) h (own n (run s cs)) ≡ sending h n s
   unfolding brought
   all-results s [] r z b = omega (arith, none-placed s (omega arith))
@@ -99,6 +97,7 @@ module _ (h n : ℕ) (l : h < 8) (d : n ≢ 0) where
       (λ e. rw e (split (isOf h n w) (λ q. rw q (omega arith)) (λ q. rw q (omega arith))))
       (λ e. rw (e, lt-ltb 0 (w .left) (omega (arith, eqb-false (w .left) 0 e))) (omega arith))
 
+  -- so where none has more than 0 left, none waits
   none-later : (s : State) → Inv s → waitingAs (later 0) h n s ≡ 0 → waiting h n s ≡ 0
   unfolding waitingAs
   none-later s r z =
@@ -142,7 +141,7 @@ module _ (h n : ℕ) (l : h < 8) (d : n ≢ 0) where
       let w = sending-less wanting h n (step s c .state) in
       split (givesTo n (step s c .answer)) (λ e. rw e (omega (arith, f .3))) (λ e. rw e (omega (arith, f .0, f .1, f .3)))
 
-  -- ---- as long as the number is not given again
+  -- ---- as long as the number is not given again: results come of those to be sent, which stay as they were asked for
   pub kept-results : (s : State) (cs : List Call) → Inv s → count (gives n) (run s cs) ≡ 0 → sending h n (after s cs) + cameTo (isResult n) h (run s cs) ≤ sending h n s
   unfolding brought
   kept-results s [] r z = omega arith
@@ -162,6 +161,7 @@ module _ (h n : ℕ) (l : h < 8) (d : n ≢ 0) where
   kept-waits s [] r = omega arith
   kept-waits s (c ∷ cs) r = omega (arith, flow h n l d s r c .replies, kept-waits (step s c .state) cs (keeps s c r))
 
+  -- results with the OK bit are results
   pub kept-oks : (s : State) (cs : List Call) → cameTo (isOkResult n) h (run s cs) ≤ cameTo (isResult n) h (run s cs)
   unfolding brought
   kept-oks s [] = omega arith

@@ -28,6 +28,7 @@ use Rattle.guarantee.proofs.Comes.{comes}
 use Rattle.guarantee.proofs.Ends.{Ends, begins, shown-reply}
 use Rattle.guarantee.proofs.Invariant.{Inv}
 
+-- the entries of a result and of a wait's end
 abbrev resultOf : Transmission → Entry
 resultOf x = result (x .number) CEC-TX-STATUS-ABORTED noCounts (x .message)
 
@@ -38,11 +39,13 @@ replyOf w = aborted (w .number) (w .sent)
 pub owed-each : (h : ℕ) (x : Transmission) → bit (eqb (x .owner) h) ≤ roomFor h x
 owed-each h x = split (eqb (x .owner) h) (λ e. rw e (omega arith)) (λ e. rw e (omega arith))
 
+-- what a handle gets is no more than it was owed
 owed-all : (s : State) (h : ℕ) → owedRoom (unset s) h + count (λ x. eqb (x .owner) h) (pending s) + count (ownedBy h) (s .waits) ≤ owedRoom s h
 unfolding roomOwed
 owed-all s h = omega (arith, sum-le (λ (x : Transmission). bit (eqb (x .owner) h)) (roomFor h) (pending s) (owed-each h))
 
 module _ (s : State) where
+  -- the state afterwards: all but the inboxes is as unset leaves it
   abbrev after : State
   after = each abortWait (each abortTransmit (unset s) (pending s)) (s .waits)
 
@@ -82,5 +85,6 @@ module _ (s : State) where
     late = λ h n b. omega arith;
   }
 
+  -- an unconfigure
   pub unconfigure-ends : Inv s → Ends s callUnconfigure (each abortWait (each abortTransmit (unset s) (pending s)) (s .waits))
   unconfigure-ends r = rw only (all-end (after .inboxes) r refl)

@@ -31,6 +31,7 @@ module _ {A : Type 0} (owner : A → ℕ) (f : A → ℕ) where
   all-beyond : (xs : List A) → sum f xs ≤ sum (beyond 0) xs
   all-beyond xs = sum-le f (beyond 0) xs (λ x. rw (le-leb 0 (owner x) (omega arith)) (omega arith))
 
+  -- all of them
   pub spread : (k : ℕ) (xs : List A) → sum f xs ≤ sum (beyond k) xs + upto (λ h. sum (under h) xs) k
   spread zero xs = omega (arith, all-beyond xs)
   spread (suc k) xs =

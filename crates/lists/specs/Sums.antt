@@ -3,7 +3,7 @@
 use Prim.Native.Nat.{ℕ, zero, suc, _+_, _*_, _≤_, _<_}
 use mathlib.Core.Bool.{Bool, true, false, cond, _||_, not}
 use mathlib.Core.List.{List, [], _∷_, _++_, map}
-use mathlib.Core.Path.{_≡_, refl, ap}
+use mathlib.Core.Path.{_≡_, refl, ap, _∙_}
 use native.Mathlib.Numerals.{add-one}
 use native.Mathlib.Omega.{arith}
 use lib.ListN.{length, getD, take}
@@ -31,6 +31,14 @@ module _ {A : Type 0} where
   pub sum-zero : (f : A → ℕ) (xs : List A) → ((x : A) → f x ≡ 0) → sum f xs ≡ 0
   sum-zero f [] h = refl
   sum-zero f (x ∷ xs) h = omega (arith, sum-zero f xs h, h x)
+
+  pub length-sum : (xs : List A) → length xs ≡ sum (λ x. 1) xs
+  length-sum [] = refl
+  length-sum (x ∷ xs) = omega (arith, length-sum xs)
+
+  -- one of several has its own weight in their sum
+  pub sum-one-of : (f : A → ℕ) (xs past : List A) (x : A) (rest : List A) → xs ≡ past ++ x ∷ rest → sum f xs ≡ sum f past + (f x + sum f rest)
+  sum-one-of f xs past x rest e = ap (sum f) e ∙ sum-append f past (x ∷ rest)
 
   pub sum-plus : (f g : A → ℕ) (xs : List A) → sum (λ x. f x + g x) xs ≡ sum f xs + sum g xs
   sum-plus f g [] = refl

@@ -48,6 +48,7 @@ pub record Aside (s t : State) : Type 0 where
   pub room : (h : ℕ) → h < 8 → roomTaken s h ≤ 16 → roomTaken t h ≤ 16
   pub none : (h : ℕ) → isOpen s h ≡ false → inboxOf (t .inboxes) h ≡ inboxOf (s .inboxes) h
 
+-- nothing at all, one after the other, one or nothing, and several
 pub aside-refl : (s : State) → Aside s s
 aside-refl s = record {
   handles = refl;
@@ -103,6 +104,7 @@ no-owner h l = ne-eqb noOwner h (λ (p : noOwner ≡ h). omega arith)
 pub room-owned : (h : ℕ) → h < 8 → Owned (roomFor h)
 room-owned h l m = rw (no-owner h l)
 
+-- and so is the room that a handle is owed
 pub aside-owed : (s t : State) → Aside s t → (h : ℕ) → h < 8 → owedRoom t h ≡ owedRoom s h
 unfolding roomOwed
 aside-owed s t a h l = rw (a .waits) (omega (arith, aside-sum (roomFor h) (room-owned h l) s t a))
@@ -123,6 +125,7 @@ lost-aside s g = record {
   none = λ h e. refl;
 }
 
+-- a copy is delivered only where entries plus owed room is not 16
 delivered-room : (s : State) (g : ℕ) (e : Entry) (h : ℕ) → eqb (roomTaken s g) 16 ≡ false → roomTaken s h ≤ 16 → roomTaken (deliver s g e) h ≤ 16
 delivered-room s g e h q r =
     rw (delivered-inbox (s .inboxes) g e h, length-append)
@@ -154,6 +157,7 @@ copyTo-aside : (e : Entry) → e .sequence ≡ 0 → (s : State) (g : ℕ) → i
 unfolding copyTo
 copyTo-aside e n s g o = split (eqb (roomTaken s g) 16) (λ q. rw q (lost-aside s g)) (λ q. rw q (deliver-aside e n s g o q))
 
+-- copies for all handles in a role
 pub copies-aside : (p : ℕ → Bool) (e : Entry) → e .sequence ≡ 0 → (s : State) → Aside s (copies (inRole p) e s)
 unfolding copies
 copies-aside p e n s =
@@ -181,6 +185,7 @@ sent-aside s m k = record {
   none = λ h e. refl;
 }
 
+-- it is queued, or dropped if the queue is full or TRANSMIT is absent
 pub sends-aside : (s : State) (bytes : List ℕ) → Aside s (sends s bytes)
 unfolding sends
 sends-aside s bytes = aside-if (s .capabilities .transmit) s (withQueue s (put 18 (s .queue) (ownerless (message (length bytes) bytes))))

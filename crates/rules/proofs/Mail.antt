@@ -38,6 +38,7 @@ delivered-same is h e =
     (split (ltb (length (inboxOf is h)) 16) (λ b. rw b) (λ b. rw b (sym (append-nil (inboxOf is h))))))
     (λ a. rw (a, set-out is h (put 16 (inboxOf is h) e) (ltb-false h (length is) a)) (sym (append-nil (inboxOf is h))))
 
+-- what a delivery to g does to the inbox of h
 pub delivered-inbox : (is : List (List Entry)) (g : ℕ) (e : Entry) (h : ℕ) → inboxOf (delivered is g e) h ≡ inboxOf is h ++ cond (arrives is g h) (e ∷ []) []
 delivered-inbox is g e h =
     split (eqb g h)
@@ -46,6 +47,7 @@ delivered-inbox is g e h =
 
 -- entries to several handles, one after the other: only inboxes change
 module _ {A : Type 0} (to : A → ℕ) (entry : A → Entry) where
+  -- one of them
   abbrev pub post : State → A → State
   post s x = deliver s (to x) (entry x)
 
@@ -74,6 +76,7 @@ module _ {A : Type 0} (to : A → ℕ) (entry : A → Entry) where
       let q : inboxOf (post s x .inboxes) h ≡ inboxOf (s .inboxes) h ++ [] = rw e at d in
       rw e (posts-inbox h (post s x) xs m (rw (q, append-nil) (omega arith)) ∙ rw (q, append-nil)))
 
+  -- as many as there are
   pub posts-length : (h : ℕ) (s : State) (xs : List A) → h < length (s .inboxes) → length (inboxOf (s .inboxes) h) + count (λ x. eqb (to x) h) xs ≤ 16
       → length (inboxOf (each post s xs .inboxes) h) ≡ length (inboxOf (s .inboxes) h) + count (λ x. eqb (to x) h) xs
   posts-length h s xs l r =
@@ -81,9 +84,11 @@ module _ {A : Type 0} (to : A → ℕ) (entry : A → Entry) where
       rw (posts-inbox h s xs l r) (omega (arith, length-append (inboxOf (s .inboxes) h) (map entry k), length-map k entry, length-keep-count (λ x. eqb (to x) h) xs))
 
 module _ (h : ℕ) where
+  -- nothing came
   pub mail-same : (s t : State) → inboxOf (t .inboxes) h ≡ inboxOf (s .inboxes) h → Mail h s t []
   mail-same s t e = record { more = []; grown = e ∙ sym (append-nil (inboxOf (s .inboxes) h)); counted = λ f z. refl }
 
+  -- one after the other
   pub mail-trans : (s t u : State) (a b : List Entry) → Mail h s t a → Mail h t u b → Mail h s u (a ++ b)
   mail-trans s t u a b x y = record {
     more = x .more ++ y .more;
