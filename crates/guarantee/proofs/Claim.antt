@@ -1,66 +1,33 @@
 -- Demand 3 holds of the rules, for any list of calls from a fresh adapter.
 -- Assumes nothing.
 use Prim.Native.Nat.{ℕ}
-use mathlib.Core.Bool.{true, false}
+use mathlib.Core.Bool.{true}
 use mathlib.Core.List.{List, [], _∷_, _++_}
-use mathlib.Core.Path.{_≡_, refl, ap, _∙_, sym}
-use native.Mathlib.Omega.{arith}
-use lib.ListN.{length}
-use Rattle.lists.specs.Elements.{getD-replicated}
+use mathlib.Core.Path.{_≡_, ap, _∙_, sym}
 use Rattle.lists.specs.Sums.{any}
 use Rattle.lists.specs.Tests.{split, clash}
-use Rattle.entry.specs.declared.Entry.{Entry}
-use Rattle.handle.specs.declared.Handle.{Handle}
 use Rattle.inbox.specs.Inboxes.{inboxOf}
 use Rattle.rules.specs.Call.{Call, Request, accepted, callTransmit}
 use Rattle.rules.specs.Cases.{after}
 use Rattle.rules.specs.Handles.{isOpen}
-use Rattle.rules.specs.Owed.{roomOwed, repliesWanted}
-use Rattle.rules.specs.State.{State, Capabilities, fresh, closedHandle}
+use Rattle.rules.specs.State.{State, Capabilities, fresh}
 use Rattle.rules.specs.Step.{Step, step, run}
-use Rattle.rules.proofs.Numbers.{carriedBy}
 use Rattle.guarantee.specs.Claim.{Fate, Claim}
 use Rattle.guarantee.specs.Seen.{opens, came, gave, sinceOpen, all}
 use Rattle.guarantee.proofs.Began.{began}
 use Rattle.guarantee.proofs.Fate.{fate}
-use Rattle.guarantee.proofs.Invariant.{Inv, open-below}
+use Rattle.guarantee.proofs.Invariant.{open-below}
 use Rattle.guarantee.proofs.Keeps.{keeps}
 use Rattle.guarantee.proofs.Parts.{parted, last-after}
+use Rattle.guarantee.proofs.Reached.{fresh-closed, fresh-inv, reached}
 use Rattle.guarantee.proofs.Since.{no-open, since-open}
-use Rattle.guarantee.proofs.Totals.{kept}
 
--- ---- a fresh adapter
--- all handles are closed, and all inboxes empty
-fresh-closed : (c : Capabilities) (h : ℕ) → isOpen (fresh c) h ≡ false
-unfolding fresh
-fresh-closed c h = ap (λ (x : Handle). x .«is_open») (getD-replicated 8 h closedHandle)
-
-fresh-empty : (c : Capabilities) (h : ℕ) → length (inboxOf (fresh c .inboxes) h) ≡ 0
-unfolding fresh
-fresh-empty c h = ap length (getD-replicated {A = List Entry} 8 h [])
-
-pub fresh-inv : (c : Capabilities) → Inv (fresh c)
-unfolding fresh roomOwed repliesWanted carriedBy
-fresh-inv c = record {
-  handles = refl;
-  inboxes = refl;
-  queued = omega arith;
-  wired = omega arith;
-  transmissions = refl;
-  waiting = refl;
-  timed = refl;
-  once = λ n d. omega arith;
-  asks = λ h l. omega arith;
-  room = λ h l. omega (arith, fresh-empty c h);
-  none = λ h l e. omega (arith, fresh-empty c h);
-}
-
--- ---- the claim
+-- a transmit that was accepted and queued
 transmits-kept : (c : Capabilities) (calls : List Call) (past : List Step) (x : Step) (later : List Step) → run (fresh c) calls ≡ past ++ x ∷ later → (h : ℕ) (r : Request) (n : ℕ) → x .call ≡ callTransmit h r → x .answer ≡ accepted n 0 → Fate h r n later
 transmits-kept c calls past x later e h r n k a =
     let p = parted (fresh c) calls past x later e in
     let s = after (fresh c) (p .before) in
-    let i = kept (fresh c) (p .before) (fresh-inv c) in
+    let i = reached c (p .before) in
     let call : p .call ≡ callTransmit h r = ap (λ (y : Step). y .call) (sym (p .here)) ∙ k in
     let answer : step s (callTransmit h r) .answer ≡ accepted n 0 = ap (λ (y : Call). step s y .answer) (sym call) ∙ ap (λ (y : Step). y .answer) (sym (p .here)) ∙ a in
     let runs : later ≡ run (step s (callTransmit h r) .state) (p .later) = p .runs ∙ ap (λ (y : Call). run (step s y .state) (p .later)) call in
@@ -73,7 +40,7 @@ inboxes-kept c calls past x e h o =
     let i = fresh-inv c in
     let a = last-after (fresh c) calls past x e in
     let q : isOpen (after (fresh c) calls) h ≡ true = sym (ap (λ (s : State). isOpen s h) a) ∙ o in
-    let l = open-below (after (fresh c) calls) h (kept (fresh c) calls i) q in
+    let l = open-below (after (fresh c) calls) h (reached c calls) q in
     rw a (split (any (opens h) (run (fresh c) calls))
     (λ n. since-open h l (fresh c) calls i n q)
     (λ n. clash (no-open h l (fresh c) calls i n q .0) (fresh-closed c h)))

@@ -28,7 +28,8 @@ use Rattle.guarantee.proofs.Flows.{flow}
 use Rattle.guarantee.proofs.Invariant.{Inv}
 use Rattle.guarantee.proofs.Keeps.{keeps}
 use Rattle.guarantee.proofs.Parts.{parted, own-parted, own-after}
-use Rattle.guarantee.proofs.Totals.{nobody, own-results, all-results, placed-most, own-replies, all-replies, closed-results, closed-replies, kept-results, kept-alike, kept-waits, kept-oks, kept}
+use Rattle.guarantee.proofs.Reached.{kept}
+use Rattle.guarantee.proofs.Totals.{nobody, own-results, all-results, placed-most, own-replies, all-replies, closed-results, closed-replies, kept-results, kept-alike, kept-waits, kept-oks}
 
 -- what comes to all handles is what comes to one, if nothing comes to the others
 one-handle : (p : Entry → Bool) (h : ℕ) (xs : List Step) → h < 8 → ((g : ℕ) → g < 8 → g ≢ h → cameTo p g xs ≡ 0) → cameToAny p xs ≡ cameTo p h xs

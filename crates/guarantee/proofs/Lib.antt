@@ -13,6 +13,7 @@ pub mod ByCases
 pub mod ClosedKept
 pub mod QueuedKept
 pub mod Keeps
+pub mod Reached
 pub mod Brought
 pub mod Flow
 pub mod ClosedFlow

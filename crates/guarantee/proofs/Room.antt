@@ -30,10 +30,9 @@ use Rattle.wait.specs.Wait.{ownedBy}
 use Rattle.wait.specs.declared.Wait.{Wait}
 use Rattle.guarantee.specs.Room.{HasRoom, Room, AlwaysRoom}
 use Rattle.guarantee.proofs.BusResultEnds.{wait-fits}
-use Rattle.guarantee.proofs.Claim.{fresh-inv}
 use Rattle.guarantee.proofs.Invariant.{Inv, improperWait}
+use Rattle.guarantee.proofs.Reached.{reached}
 use Rattle.guarantee.proofs.TimeEnds.{sum-time}
-use Rattle.guarantee.proofs.Totals.{kept}
 use Rattle.guarantee.proofs.UnconfigureEnds.{owed-each}
 
 -- entries to several handles: where there is room for all those to one of them, each of these finds room
@@ -114,4 +113,4 @@ module _ (s : State) (r : Inv s) where
 
 -- so in every state that calls lead to
 pub always-room : AlwaysRoom
-always-room c calls = room (after (fresh c) calls) (kept (fresh c) calls (fresh-inv c))
+always-room c calls = room (after (fresh c) calls) (reached c calls)

@@ -166,8 +166,3 @@ module _ (h n : ℕ) (l : h < 8) (d : n ≢ 0) where
   unfolding brought
   kept-oks s [] = omega arith
   kept-oks s (c ∷ cs) = omega (arith, ok-less n h s c (step s c), kept-oks (step s c .state) cs)
-
--- every call of a list keeps the invariant
-pub kept : (s : State) (cs : List Call) → Inv s → Inv (after s cs)
-kept s [] r = r
-kept s (c ∷ cs) r = kept (step s c .state) cs (keeps s c r)
