@@ -38,5 +38,5 @@ pub record Kept (history : List Step) : Type 0 where
   pub inboxes : (past : List Step) (x : Step) → history ≡ past ++ x ∷ [] → (h : ℕ) → isOpen (x .after) h ≡ true → all (came h) (sinceOpen h history) ≡ all (gave h) (sinceOpen h history) ++ inboxOf (x .after .inboxes) h
 
 -- "Take any list of these calls by anyone, refused ones included, from a fresh adapter", whatever its capabilities
-pub Claim : Type 0
+abbrev pub Claim : Type 0
 Claim = (c : Capabilities) (calls : List Call) → Kept (run (fresh c) calls)

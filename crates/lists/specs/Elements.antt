@@ -5,7 +5,7 @@ use mathlib.Core.List.{List, [], _∷_, _++_, map}
 use mathlib.Core.Path.{_≡_, refl, ap, _∙_, sym}
 use native.Mathlib.Nat.{zero-add, add-zero, suc-add}
 use native.Mathlib.Omega.{arith}
-use lib.ListN.{length, getD, set, take, drop, length-map, length-take}
+use lib.ListN.{length, getD, set, take, drop, length-map, length-take, length-append, replicate}
 use lib.Seq.{getD-append-add, drop-append-add, getD-drop, take-nil}
 
 module _ {A B : Type 0} (f : A → B) where
@@ -72,3 +72,17 @@ module _ {A : Type 0} where
   getD-within [] i d e h = absurd (omega arith)
   getD-within (x ∷ l) zero d e h = refl
   getD-within (x ∷ l) (suc i) d e h = getD-within l i d e (omega arith)
+
+  -- copies of one element, read with that element past the end
+  pub getD-replicated : (n i : ℕ) (a : A) → getD (replicate n a) i a ≡ a
+  getD-replicated zero i a = refl
+  getD-replicated (suc n) zero a = refl
+  getD-replicated (suc n) (suc i) a = getD-replicated n i a
+
+  -- no list with an element is empty, and one of no length is
+  pub empty-not : (xs : List A) (y : A) (ys : List A) → _≡_ {A = List A} [] (xs ++ y ∷ ys) → ⊥
+  empty-not xs y ys e = let z = ap length e in let n = length-append xs (y ∷ ys) in omega arith
+
+  pub empty-list : (xs : List A) → length xs ≡ 0 → xs ≡ []
+  empty-list [] e = refl
+  empty-list (x ∷ xs) e = absurd (omega arith)

@@ -7,3 +7,5 @@ pub mod Blocks
 pub mod Order
 pub mod Pigeonhole
 pub mod Below
+pub mod Last
+pub mod Spread

@@ -51,6 +51,14 @@ module _ {A : Type 0} where
       let ih = first-le p l in
       split (p x) (λ e. rw e (omega arith)) (λ e. rw e (omega arith))
 
+  -- the first that passes does pass
+  pub first-passes : (p : A → Bool) (l : List A) (d : A) → first p l < length l → p (getD l (first p l) d) ≡ true
+  first-passes p [] d h = absurd (omega arith)
+  first-passes p (x ∷ l) d h =
+      split (p x)
+      (λ e. rw (e, e))
+      (λ e. let z = rw e at h in rw e (first-passes p l d (omega arith)))
+
   pub least-lt : (k : A → ℕ) (l : List A) → 0 < length l → least k l < length l
   least-lt k [] h = h
   least-lt k (x ∷ []) h = omega arith

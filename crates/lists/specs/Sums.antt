@@ -3,7 +3,7 @@
 use Prim.Native.Nat.{ℕ, zero, suc, _+_, _*_, _≤_, _<_}
 use mathlib.Core.Bool.{Bool, true, false, cond, _||_, not}
 use mathlib.Core.List.{List, [], _∷_, _++_, map}
-use mathlib.Core.Path.{_≡_, refl, ap}
+use mathlib.Core.Path.{_≡_, refl, ap, _∙_}
 use native.Mathlib.Numerals.{add-one}
 use native.Mathlib.Omega.{arith}
 use lib.ListN.{length, getD, take}
@@ -28,6 +28,22 @@ module _ {A : Type 0} where
   sum-le f g [] h = omega arith
   sum-le f g (x ∷ xs) h = omega (arith, sum-le f g xs h, h x)
 
+  pub sum-zero : (f : A → ℕ) (xs : List A) → ((x : A) → f x ≡ 0) → sum f xs ≡ 0
+  sum-zero f [] h = refl
+  sum-zero f (x ∷ xs) h = omega (arith, sum-zero f xs h, h x)
+
+  pub length-sum : (xs : List A) → length xs ≡ sum (λ x. 1) xs
+  length-sum [] = refl
+  length-sum (x ∷ xs) = omega (arith, length-sum xs)
+
+  -- one of several has its own weight in their sum
+  pub sum-one-of : (f : A → ℕ) (xs past : List A) (x : A) (rest : List A) → xs ≡ past ++ x ∷ rest → sum f xs ≡ sum f past + (f x + sum f rest)
+  sum-one-of f xs past x rest e = ap (sum f) e ∙ sum-append f past (x ∷ rest)
+
+  pub sum-plus : (f g : A → ℕ) (xs : List A) → sum (λ x. f x + g x) xs ≡ sum f xs + sum g xs
+  sum-plus f g [] = refl
+  sum-plus f g (x ∷ xs) = omega (arith, sum-plus f g xs)
+
   -- weights of at most w
   pub sum-most : (w : ℕ) (f : A → ℕ) (xs : List A) → ((x : A) → f x ≤ w) → sum f xs ≤ length xs * w
   sum-most w f [] h = omega arith
@@ -46,6 +62,16 @@ module _ {A : Type 0} where
   sum-split f p [] = refl
   sum-split f p (x ∷ xs) =
       let ih = sum-split f p xs in
+      split (p x) (λ e. rw e (omega arith)) (λ e. rw e (omega arith))
+
+  pub sum-keep-le : (f : A → ℕ) (p : A → Bool) (xs : List A) → sum f (keep p xs) ≤ sum f xs
+  sum-keep-le f p xs = omega (arith, sum-split f p xs)
+
+  -- over those that pass a test, the others weigh nothing
+  pub sum-keep : (f : A → ℕ) (p : A → Bool) (xs : List A) → sum f (keep p xs) ≡ sum (λ x. cond (p x) (f x) 0) xs
+  sum-keep f p [] = refl
+  sum-keep f p (x ∷ xs) =
+      let ih = sum-keep f p xs in
       split (p x) (λ e. rw e (omega arith)) (λ e. rw e (omega arith))
 
   pub keep-append : (p : A → Bool) (xs ys : List A) → keep p (xs ++ ys) ≡ keep p xs ++ keep p ys

@@ -3,6 +3,7 @@
 use Prim.Native.Nat.{ℕ, _-_}
 use mathlib.Core.Bool.{Bool, true, false, cond, _&&_, _||_, not, true≢false}
 use mathlib.Core.Path.{_≡_, refl, sym, _∙_}
+use native.Mathlib.Omega.{arith}
 use lib.Dec.{eqb}
 use mir.Val.{boolByte}
 use borrow.Author.Tests.{eq-eqb}
@@ -61,3 +62,18 @@ and-true false = refl
 pub and-false : (a : Bool) → (a && false) ≡ false
 and-false true = refl
 and-false false = refl
+
+-- a bit that is 0
+pub none-bit : (b : Bool) → bit b ≡ 0 → b ≡ false
+none-bit true e = absurd (omega arith)
+none-bit false e = refl
+
+-- a bit, and the bit of two tests, as choices
+pub cond-bit : (b : Bool) → cond b 1 0 ≡ bit b
+cond-bit true = refl
+cond-bit false = refl
+
+pub and-cond : (a b : Bool) → cond a (bit b) 0 ≡ cond (a && b) 1 0
+and-cond true true = refl
+and-cond true false = refl
+and-cond false b = refl

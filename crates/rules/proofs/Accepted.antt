@@ -51,7 +51,7 @@ pub record Passed (s : State) (h : ℕ) (r : Request) : Type 0 where
   pub able : s .capabilities .transmit ≡ true
   pub fits : isSelfPoll s r ≡ false → Roomy s h r
 
-all-passed : (s : State) (h : ℕ) (r : Request) → transmitRefusal s h r ≡ 0 → Passed s h r
+pub all-passed : (s : State) (h : ℕ) (r : Request) → transmitRefusal s h r ≡ 0 → Passed s h r
 all-passed s h r q =
     let c1 = passed (not (isOpen s h)) EBADF _ (omega arith) q in
     let c2 = passed (not (s .capabilities .transmit)) ENOTTY _ (omega arith) (c1 .1) in

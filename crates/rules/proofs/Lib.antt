@@ -7,3 +7,5 @@ pub mod Accepted
 pub mod CoreSends
 pub mod Growth
 pub mod Deliveries
+pub mod Mail
+pub mod Aside

@@ -1,0 +1,165 @@
+-- A bus result ends the transmission on the wire; with the OK bit, and if a reply is wanted, its wait begins.
+-- Assumes nothing.
+use Prim.Native.Nat.{ℕ, _+_, _-_, _≤_, _<_}
+use mathlib.Core.Bool.{true, cond, _&&_}
+use mathlib.Core.List.{List, [], _∷_, _++_, map, append-nil}
+use mathlib.Core.Logic.{_≢_}
+use mathlib.Core.Path.{_≡_, refl, ap, _∙_, sym}
+use native.Mathlib.Omega.{arith}
+use lib.Dec.{eqb, ltb}
+use lib.ListN.{length, drop, length-set}
+use borrow.Author.Tests.{lt-ltb}
+use Rattle.constants.specs.Kernel.{CEC-TX-STATUS-OK}
+use Rattle.lists.specs.Last.{last, last-more, last-tail}
+use Rattle.lists.specs.Sums.{sum, sum-append, count}
+use Rattle.lists.specs.Tests.{bit, split, both}
+use Rattle.entry.specs.Entry.{result, resultCopy, timedOut}
+use Rattle.entry.specs.declared.Counts.{Counts}
+use Rattle.entry.specs.declared.Entry.{Entry}
+use Rattle.rules.specs.BusResult.{concluded, begun, waitFor}
+use Rattle.rules.specs.Call.{callBusResult}
+use Rattle.rules.specs.Deliver.{copies}
+use Rattle.rules.specs.Handles.{isMonitor, hasBit, inRole}
+use Rattle.rules.specs.Owed.{pending, roomOwed, owedRoom}
+use Rattle.rules.specs.State.{State}
+use Rattle.rules.proofs.Aside.{Owned, Aside, copies-aside, core-weightless, room-owned}
+use Rattle.rules.proofs.Entries.{result-shows, resultCopy-shows, timedOut-shows}
+use Rattle.transmission.specs.Transmission.{ownerless, roomFor}
+use Rattle.transmission.specs.declared.Transmission.{Transmission}
+use Rattle.wait.specs.Wait.{ownedBy}
+use Rattle.wait.specs.declared.Wait.{Wait}
+use Rattle.guarantee.proofs.Carried.{sentAs, awaitedAs, waitingAs}
+use Rattle.guarantee.proofs.Comes.{comes}
+use Rattle.guarantee.proofs.Ends.{Ends, begins, shown-reply}
+use Rattle.guarantee.proofs.Invariant.{Inv, improper, improperWait, spent, few}
+
+-- the wait of a proper transmission has a handle, a number and time left
+pub wait-proper : (x : Transmission) → improper x ≡ 0 → x .«wants_reply» ≡ true → (spent (waitFor x) ≡ 0) × (improperWait (waitFor x) ≡ 0)
+wait-proper x z w =
+    split (ltb (x .owner) 8)
+    (λ o. split (eqb (x .number) 0)
+    (λ n. absurd (let y = rw (o, n) at z in omega arith))
+    (λ n. split (eqb (x .timeout) 0)
+    (λ t. absurd (let y = rw (o, n, w, t) at z in omega arith))
+    (λ t. (rw t, rw (o, n)))))
+    (λ o. split (eqb (x .number) 0)
+    (λ n. absurd (let y = rw (o, n, w) at z in omega arith))
+    (λ n. absurd (let y = rw (o, n) at z in omega arith)))
+
+module _ (s : State) (x : Transmission) (r : Inv s) (w : s .wire ≡ x ∷ []) where
+  -- a weight over the wire and over what is pending
+  on-wire : (f : Transmission → ℕ) → sum f (pending s) ≡ f x + sum f (s .queue)
+  on-wire f = omega (arith, sum-append f (s .wire) (s .queue), ap (sum f) w)
+
+  -- the transmission on the wire is proper
+  wire-proper : improper x ≡ 0
+  wire-proper = omega (arith, on-wire improper, r .transmissions)
+
+  -- there is a place for its wait
+  pub wait-fits : x .«wants_reply» ≡ true → length (s .waits) < 32
+  wait-fits e = omega (arith, few s r, on-wire (λ t. bit (t .«wants_reply»)), ap bit e)
+
+  -- the waits afterwards
+  begun-waits : (status : ℕ) → begun status x (s .waits) ≡ s .waits ++ cond (hasBit CEC-TX-STATUS-OK status && x .«wants_reply») (waitFor x ∷ []) []
+  begun-waits status =
+      split (hasBit CEC-TX-STATUS-OK status && x .«wants_reply»)
+      (λ e. rw (e, lt-ltb (length (s .waits)) 32 (wait-fits (both (hasBit CEC-TX-STATUS-OK status) (x .«wants_reply») e .1))))
+      (λ e. rw e (sym (append-nil (s .waits))))
+
+  begun-sum : (status : ℕ) (f : Wait → ℕ) → sum f (begun status x (s .waits)) ≡ sum f (s .waits) + begins f status x
+  begun-sum status f =
+      rw (begun-waits status)
+      (split (hasBit CEC-TX-STATUS-OK status && x .«wants_reply»)
+      (λ e. rw e (omega (arith, sum-append f (s .waits) (waitFor x ∷ []))))
+      (λ e. rw e (omega (arith, sum-append f (s .waits) []))))
+
+  -- the wait that begins has time left
+  begun-timed : (status : ℕ) → begins spent status x ≡ 0
+  begun-timed status =
+      split (hasBit CEC-TX-STATUS-OK status && x .«wants_reply»)
+      (λ e. rw e (wait-proper x wire-proper (both (hasBit CEC-TX-STATUS-OK status) (x .«wants_reply») e .1) .0))
+      (λ e. rw e)
+
+  -- the room for the result, and for the reply if its wait begins
+  begun-owed : (status h : ℕ) → bit (eqb (x .owner) h) + begins (λ v. bit (ownedBy h v)) status x ≤ roomFor h x
+  begun-owed status h =
+      split (eqb (x .owner) h)
+      (λ o. split (hasBit CEC-TX-STATUS-OK status)
+      (λ e. split (x .«wants_reply») (λ q. simp (o, e, q) (omega arith)) (λ q. simp (o, e, q) (omega arith)))
+      (λ e. simp (o, e) (omega arith)))
+      (λ o. split (hasBit CEC-TX-STATUS-OK status && x .«wants_reply») (λ e. simp (o, e) (omega arith)) (λ e. simp (o, e) (omega arith)))
+
+  -- a wait begins with the timeout of its transmission
+  begun-late : (status h n b : ℕ) → begins (awaitedAs (λ v. ltb b (v .left)) h n) status x ≤ sentAs (λ t. ltb b (t .timeout)) h n x
+  begun-late status h n b =
+      split (hasBit CEC-TX-STATUS-OK status && x .«wants_reply») (λ e. rw e (omega arith)) (λ e. rw e (omega arith))
+
+  module _ (status : ℕ) (kept : Counts) where
+    -- the entry of its result, and that of a reply, of which there is none here
+    abbrev resultOf : Transmission → Entry
+    resultOf t = result (t .number) status kept (t .message)
+
+    abbrev replyOf : Wait → Entry
+    replyOf v = timedOut (v .number) (v .sent)
+
+    -- the copies for monitors come first
+    abbrev copied : State
+    copied = copies (inRole isMonitor) (resultCopy status kept (x .message)) s
+
+    aside : Aside s copied
+    aside = copies-aside isMonitor (resultCopy status kept (x .message)) (resultCopy-shows status kept (x .message) .sequence) s
+
+    -- what is left to be sent
+    left-sum : (f : Transmission → ℕ) → Owned f → sum f (pending (concluded s x status kept)) + f x ≡ sum f (pending s)
+    left-sum f z =
+        omega (
+          arith,
+          on-wire f,
+          sum-append f (drop 1 (s .wire)) (copied .queue),
+          ap (λ (l : List Transmission). sum f (drop 1 l)) w,
+          ap (sum f) (aside .queue),
+          sum-append f (s .queue) (map ownerless (aside .core)),
+          core-weightless f z (aside .core),
+        )
+
+    -- the others are one nearer
+    left-near : (f : Transmission → ℕ) → Owned f → last f (pending (concluded s x status kept)) ≤ last f (pending s) - 1
+    left-near f z =
+        let a : last f (pending (concluded s x status kept)) ≡ last f (s .queue) =
+        ap (λ (l : List Transmission). last f (drop 1 l ++ copied .queue)) w
+        ∙ ap (last f) (aside .queue)
+        ∙ last-more f (s .queue) (map ownerless (aside .core)) (core-weightless f z (aside .core)) in
+        let b : last f (pending s) ≡ last f (x ∷ s .queue) = ap (λ (l : List Transmission). last f (l ++ s .queue)) w in
+        omega (arith, last-tail f x (s .queue))
+
+    -- the handle is owed less by the result that it gets
+    owed-less : (h : ℕ) → h < 8 → owedRoom (concluded s x status kept) h + count (λ t. eqb (t .owner) h) (x ∷ []) + 0 ≤ owedRoom s h
+    unfolding roomOwed
+    owed-less h l = omega (arith, left-sum (roomFor h) (room-owned h l), begun-sum status (λ v. bit (ownedBy h v)), begun-owed status h)
+
+    -- a bus result that is taken
+    pub busResult-ends : (counts : Counts) → status ≢ 0 → Ends s (callBusResult status counts) (concluded s x status kept)
+    unfolding waitingAs
+    busResult-ends counts d = record {
+      sent = x ∷ [];
+      status = status;
+      over = [];
+      final = d;
+      resultOf = resultOf;
+      replyOf = replyOf;
+      results = λ t. result-shows (t .number) status kept (t .message);
+      replies = λ v. shown-reply (timedOut-shows (v .number) (v .sent)) (omega arith);
+      comes = λ h l. comes resultOf replyOf h l s copied copied (concluded s x status kept) (x ∷ []) [] r aside refl refl (owed-less h l);
+      closes = λ h. refl;
+      opens = aside .opens;
+      handles = aside .handles ∙ r .handles;
+      inboxes = length-set (copied .inboxes) (x .owner) _ ∙ aside .inboxes ∙ r .inboxes;
+      queued = aside .fits (r .queued);
+      wired = omega (arith, ap (λ (l : List Transmission). length (drop 1 l)) w);
+      sends = λ f z. omega (arith, left-sum f z);
+      waits = λ f z. omega (arith, begun-sum status f);
+      older = λ f z. omega arith;
+      nearer = λ f z. left-near f z;
+      timed = omega (arith, begun-sum status spent, begun-timed status, r .timed);
+      late = λ h n b. let z : b - 0 ≡ b = omega arith in rw z (omega (arith, begun-sum status (awaitedAs (λ v. ltb b (v .left)) h n), begun-late status h n b));
+    }

@@ -1,0 +1,106 @@
+-- What a call does that ends transmissions and waits: a bus result, a message from the wire, time passing and an unconfigure.
+-- Assumes nothing.
+use Prim.Native.Nat.{ℕ, _+_, _-_, _≤_, _<_}
+use mathlib.Core.Bool.{false, cond, _&&_}
+use mathlib.Core.List.{List, [], map}
+use mathlib.Core.Logic.{_≢_}
+use mathlib.Core.Path.{_≡_, _∙_, sym}
+use native.Mathlib.Omega.{arith}
+use lib.Dec.{ltb}
+use lib.ListN.{length}
+use Rattle.constants.specs.Kernel.{CEC-TX-STATUS-OK}
+use Rattle.lists.specs.Last.{last, last-more}
+use Rattle.lists.specs.Sums.{sum}
+use Rattle.lists.specs.Tests.{bit}
+use Rattle.entry.specs.Entry.{noCounts, result, timedOut}
+use Rattle.entry.specs.declared.Entry.{Entry}
+use Rattle.rules.specs.BusResult.{waitFor}
+use Rattle.rules.specs.Call.{Call}
+use Rattle.rules.specs.Handles.{isOpen, hasBit}
+use Rattle.rules.specs.Owed.{pending}
+use Rattle.rules.specs.State.{State}
+use Rattle.rules.proofs.Aside.{Owned, Aside, aside-pending, aside-sum, core-weightless}
+use Rattle.rules.proofs.Entries.{Shows, result-shows, timedOut-shows}
+use Rattle.transmission.specs.Transmission.{ownerless}
+use Rattle.transmission.specs.declared.Transmission.{Transmission}
+use Rattle.wait.specs.Wait.{reduced}
+use Rattle.wait.specs.declared.Wait.{Wait}
+use Rattle.guarantee.specs.Seen.{isClose, isBusResult, milliseconds}
+use Rattle.guarantee.proofs.Carried.{sentAs, waitingAs}
+use Rattle.guarantee.proofs.Comes.{Comes, entriesTo, comes-aside}
+use Rattle.guarantee.proofs.Invariant.{Inv, spent}
+
+-- a weight of waits that does not look at the time left
+abbrev pub Timeless : (Wait → ℕ) → Type 0
+Timeless f = (ms : ℕ) (w : Wait) → f (reduced ms w) ≡ f w
+
+-- the weight of the wait that begins when a transmission ends with this status
+abbrev pub begins : (Wait → ℕ) → ℕ → Transmission → ℕ
+begins f status x = cond (hasBit CEC-TX-STATUS-OK status && x .«wants_reply») (f (waitFor x)) 0
+
+-- an entry that ends a wait
+pub record Replies (number : ℕ) (e : Entry) : Type 0 where
+  pub sequence : e .sequence ≡ number
+  pub transmitted : e .«tx_status» ≡ 0
+  pub received : e .«rx_status» ≢ 0
+
+-- what shows a receive status and no other
+pub shown-reply : {n rx : ℕ} {e : Entry} → Shows n 0 rx e → rx ≢ 0 → Replies n e
+shown-reply x d = record { sequence = x .sequence; transmitted = x .transmitted; received = λ z. d (sym (x .received) ∙ z) }
+
+-- from s the call leads to t
+pub record Ends (s : State) (c : Call) (t : State) : Type 0 where
+  -- the transmissions that end, with what status, and the waits
+  pub sent : List Transmission
+  pub status : ℕ
+  pub over : List Wait
+  pub final : status ≢ 0
+  -- the entries by which they end
+  pub resultOf : Transmission → Entry
+  pub replyOf : Wait → Entry
+  pub results : (x : Transmission) → Shows (x .number) status 0 (resultOf x)
+  pub replies : (w : Wait) → Replies (w .number) (replyOf w)
+  pub comes : (h : ℕ) → h < 8 → Comes h s t (entriesTo resultOf replyOf h sent over)
+  -- no handle is opened or closed, and nothing is past its bounds
+  pub closes : (h : ℕ) → isClose h c ≡ false
+  pub opens : (h : ℕ) → isOpen t h ≡ isOpen s h
+  pub handles : length (t .handles) ≡ 8
+  pub inboxes : length (t .inboxes) ≡ 8
+  pub queued : length (t .queue) ≤ 18
+  pub wired : length (t .wire) ≤ 1
+  -- every transmission of a handle is still to be sent, or ends; every wait waits still, or ends; and those sent with the OK bit that want a reply wait
+  pub sends : (f : Transmission → ℕ) → Owned f → sum f (pending t) + sum f sent ≡ sum f (pending s)
+  pub waits : (f : Wait → ℕ) → Timeless f → sum f (t .waits) + sum f over ≡ sum f (s .waits) + sum (begins f status) sent
+  pub older : (f : Wait → ℕ) → Timeless f → sum f over ≤ sum f (s .waits)
+  -- each bus result brings those to be sent one nearer
+  pub nearer : (f : Transmission → ℕ) → Owned f → last f (pending t) ≤ last f (pending s) - bit (isBusResult c)
+  -- every wait has time left: less by the time that passed
+  pub timed : sum spent (t .waits) ≡ 0
+  pub late : (h n b : ℕ) → waitingAs (λ w. ltb (b - milliseconds c) (w .left)) h n t ≤ waitingAs (λ w. ltb b (w .left)) h n s + sum (sentAs (λ x. ltb b (x .timeout)) h n) sent
+
+-- a call that does no more than copies and the core's work
+pub aside-ends : (s t : State) (c : Call) → Inv s → Aside s t → ((h : ℕ) → isClose h c ≡ false) → isBusResult c ≡ false → milliseconds c ≡ 0 → Ends s c t
+unfolding waitingAs
+aside-ends s t c r a close bus time = record {
+  sent = [];
+  status = 1;
+  over = [];
+  final = omega arith;
+  resultOf = λ x. result (x .number) 1 noCounts (x .message);
+  replyOf = λ w. timedOut (w .number) (w .sent);
+  results = λ x. result-shows (x .number) 1 noCounts (x .message);
+  replies = λ w. shown-reply (timedOut-shows (w .number) (w .sent)) (omega arith);
+  comes = λ h l. comes-aside h l s t r a;
+  closes = close;
+  opens = a .opens;
+  handles = a .handles ∙ r .handles;
+  inboxes = a .inboxes ∙ r .inboxes;
+  queued = a .fits (r .queued);
+  wired = rw (a .wire) (r .wired);
+  sends = λ f z. omega (arith, aside-sum f z s t a);
+  waits = λ f z. rw (a .waits) (omega arith);
+  older = λ f z. omega arith;
+  nearer = λ f z. rw (aside-pending s t a, last-more f (pending s) (map ownerless (a .core)) (core-weightless f z (a .core)), bus) (omega arith);
+  timed = rw (a .waits) (r .timed);
+  late = λ h n b. let z : b - milliseconds c ≡ b = omega arith in rw (z, a .waits) (omega arith);
+}

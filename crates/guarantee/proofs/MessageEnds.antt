@@ -1,0 +1,161 @@
+-- A message from the wire ends the oldest wait that it matches, if there is one, with its reply.
+-- Assumes nothing.
+use Prim.Native.Nat.{ℕ, _+_, _-_, _≤_, _<_}
+use mathlib.Core.Bool.{true, false}
+use mathlib.Core.List.{List, [], _∷_, map}
+use mathlib.Core.Path.{_≡_, refl, _∙_}
+use native.Mathlib.Omega.{arith}
+use lib.Dec.{eqb, ltb}
+use lib.ListN.{length, getD, length-set}
+use borrow.Author.Tests.{ltb-true}
+use Rattle.constants.specs.Kernel.{CEC-MSG-FEATURE-ABORT}
+use Rattle.lists.specs.Last.{last-more}
+use Rattle.lists.specs.Places.{first, without, sum-without}
+use Rattle.lists.specs.Sums.{count}
+use Rattle.lists.specs.Tests.{bit, split}
+use Rattle.message.specs.Message.{opcode}
+use Rattle.message.specs.declared.Message.{Message}
+use Rattle.entry.specs.Entry.{noCounts, result, messageCopy}
+use Rattle.entry.specs.declared.Entry.{Entry}
+use Rattle.rules.specs.Call.{Call, callMessage}
+use Rattle.rules.specs.Core.{answers, notes}
+use Rattle.rules.specs.Deliver.{deliver, copies}
+use Rattle.rules.specs.Handles.{inRole}
+use Rattle.rules.specs.Incoming.{heard, handled, stops, replied, replyEntry, followed, refusedMessage, monitors}
+use Rattle.rules.specs.Owed.{pending, roomOwed, owedRoom}
+use Rattle.rules.specs.State.{State, withWaits}
+use Rattle.rules.proofs.Aside.{Aside, aside-trans, aside-pending, aside-sum, core-weightless, room-owned, copies-aside, notes-aside, answers-aside, followed-aside, refusedMessage-aside}
+use Rattle.rules.proofs.Entries.{result-shows, replyEntry-shows, messageCopy-shows}
+use Rattle.transmission.specs.Transmission.{ownerless, roomFor}
+use Rattle.transmission.specs.declared.Transmission.{Transmission}
+use Rattle.wait.specs.Wait.{noWait, answeredBy, ownedBy}
+use Rattle.wait.specs.declared.Wait.{Wait}
+use Rattle.waits.specs.Waits.{Taken, takenAt, matchTaken}
+use Rattle.guarantee.proofs.Carried.{awaitedAs, waitingAs}
+use Rattle.guarantee.proofs.Comes.{comes, comes-then}
+use Rattle.guarantee.proofs.Ends.{Ends, Replies, shown-reply, aside-ends}
+use Rattle.guarantee.proofs.Invariant.{Inv, spent}
+
+-- copies and core work after what a call ends
+pub ends-then : (s t u : State) (c : Call) → Ends s c t → Aside t u → Ends s c u
+unfolding waitingAs
+ends-then s t u c e a = record {
+  sent = e .sent;
+  status = e .status;
+  over = e .over;
+  final = e .final;
+  resultOf = e .resultOf;
+  replyOf = e .replyOf;
+  results = e .results;
+  replies = e .replies;
+  comes = λ h l. comes-then h l s t u _ (e .comes h l) (e .opens h) a;
+  closes = e .closes;
+  opens = λ h. a .opens h ∙ e .opens h;
+  handles = a .handles ∙ e .handles;
+  inboxes = a .inboxes ∙ e .inboxes;
+  queued = a .fits (e .queued);
+  wired = rw (a .wire) (e .wired);
+  sends = λ f z. omega (arith, aside-sum f z t u a, e .sends f z);
+  waits = λ f z. rw (a .waits) (e .waits f z);
+  older = e .older;
+  nearer = λ f z. rw (aside-pending t u a, last-more f (pending t) (map ownerless (a .core)) (core-weightless f z (a .core))) (e .nearer f z);
+  timed = rw (a .waits) (e .timed);
+  late = λ h n b. rw (a .waits) (e .late h n b);
+}
+
+-- the reply's entry shows a receive status
+reply-shown : (n : ℕ) (m : Message) → Replies n (replyEntry n m)
+reply-shown n m = shown-reply (replyEntry-shows n m) (split (eqb (opcode (m .bytes)) CEC-MSG-FEATURE-ABORT) (λ e. rw e (omega arith)) (λ e. rw e (omega arith)))
+
+module _ (s : State) (r : Inv s) (m : Message) (k : ℕ) (bytes : List ℕ) where
+  abbrev call : Call
+  call = callMessage k bytes
+
+  -- after the copies to monitors, the wait at a place ends
+  module _ (c : State) (a : Aside s c) (i : ℕ) (l : i < length (s .waits)) where
+    abbrev wait : Wait
+    wait = getD (s .waits) i noWait
+
+    abbrev rest : List Wait
+    rest = without i (s .waits)
+
+    abbrev resultOf : Transmission → Entry
+    resultOf x = result (x .number) 1 noCounts (x .message)
+
+    abbrev replyOf : Wait → Entry
+    replyOf w = replyEntry (w .number) m
+
+    abbrev after : State
+    after = deliver (withWaits c rest) (wait .owner) (replyOf wait)
+
+    -- its handle is owed less by the reply that it gets
+    owed-less : (h : ℕ) → h < 8 → owedRoom after h + 0 + count (ownedBy h) (wait ∷ []) ≤ owedRoom s h
+    unfolding roomOwed
+    owed-less h q = omega (arith, aside-sum (roomFor h) (room-owned h q) s c a, sum-without (λ w. bit (ownedBy h w)) i (s .waits) noWait l)
+
+    reply-ends : Ends s call after
+    unfolding waitingAs
+    reply-ends = record {
+      sent = [];
+      status = 1;
+      over = wait ∷ [];
+      final = omega arith;
+      resultOf = resultOf;
+      replyOf = replyOf;
+      results = λ x. result-shows (x .number) 1 noCounts (x .message);
+      replies = λ w. reply-shown (w .number) m;
+      comes = λ h q. comes resultOf replyOf h q s c (withWaits c rest) after [] (wait ∷ []) r a refl refl (owed-less h q);
+      closes = λ h. refl;
+      opens = a .opens;
+      handles = a .handles ∙ r .handles;
+      inboxes = length-set (c .inboxes) (wait .owner) _ ∙ a .inboxes ∙ r .inboxes;
+      queued = a .fits (r .queued);
+      wired = rw (a .wire) (r .wired);
+      sends = λ f z. omega (arith, aside-sum f z s c a);
+      waits = λ f z. omega (arith, sum-without f i (s .waits) noWait l);
+      older = λ f z. omega (arith, sum-without f i (s .waits) noWait l);
+      nearer = λ f z. rw (aside-pending s c a, last-more f (pending s) (map ownerless (a .core)) (core-weightless f z (a .core))) (omega arith);
+      timed = omega (arith, sum-without spent i (s .waits) noWait l, r .timed);
+      late = λ h n b. let z : b - 0 ≡ b = omega arith in rw z (omega (arith, sum-without (awaitedAs (λ v. ltb b (v .left)) h n) i (s .waits) noWait l));
+    }
+
+  -- steps 4 to 6
+  abbrev later : State → Taken → State
+  later t x = refusedMessage (followed (answers (notes t m) m) x m) x m
+
+  -- they end no wait
+  later-aside : (t : State) (x : Taken) → Aside t (later t x)
+  later-aside t x =
+      let b = notes t m in
+      let c = answers b m in
+      let d = followed c x m in
+      aside-trans t b (later t x) (notes-aside t m)
+      (aside-trans b c (later t x) (answers-aside b m)
+      (aside-trans c d (later t x) (followed-aside c x m) (refusedMessage-aside d x m)))
+
+  -- steps 3 to 6: a wait is found, or none
+  handled-ends : (c : State) → Aside s c → (i : ℕ) → Ends s call (handled c (takenAt i (s .waits)) m)
+  handled-ends c a i =
+      split (ltb i (length (s .waits)))
+      (λ q. found q (ltb-true i (length (s .waits)) q))
+      (λ q. none q)
+    where
+      found : ltb i (length (s .waits)) ≡ true → i < length (s .waits) → Ends s call (later (replied c (takenAt i (s .waits)) m) (takenAt i (s .waits)))
+      found q l =
+          let e : replied c (takenAt i (s .waits)) m ≡ after c a i l = rw q in
+          rw e (ends-then s (after c a i l) _ call (reply-ends c a i l) (later-aside (after c a i l) (takenAt i (s .waits))))
+
+      none : ltb i (length (s .waits)) ≡ false → Ends s call (later (replied c (takenAt i (s .waits)) m) (takenAt i (s .waits)))
+      none q =
+          let e : replied c (takenAt i (s .waits)) m ≡ c = rw q in
+          rw e (aside-ends s _ call r (aside-trans s c _ a (later-aside c (takenAt i (s .waits)))) (λ h. refl) refl refl)
+
+  -- a message that is taken
+  pub message-ends : Ends s call (heard s m)
+  unfolding heard matchTaken
+  message-ends =
+      let c = copies (inRole (monitors s m)) (messageCopy m) s in
+      let a = copies-aside (monitors s m) (messageCopy m) (messageCopy-shows m .sequence) s in
+      split (stops s m)
+      (λ q. rw q (aside-ends s c call r a (λ h. refl) refl refl))
+      (λ q. rw q (handled-ends c a (first (answeredBy m) (s .waits))))

@@ -1,0 +1,224 @@
+-- Copies and the core's own work: no transmission and no wait of a handle ends or begins by them (document 01, "A message from the wire").
+-- Assumes nothing.
+use Prim.Native.Nat.{ℕ, _≤_, _<_}
+use mathlib.Core.Bool.{Bool, true, false, cond, _&&_}
+use mathlib.Core.List.{List, [], _∷_, _++_, map, append-assoc, append-nil}
+use mathlib.Core.Path.{_≡_, refl, sym, _∙_}
+use native.Mathlib.Omega.{arith}
+use lib.Dec.{eqb, ltb}
+use lib.ListN.{length, set, length-append, length-set}
+use borrow.Author.Tests.{eqb-true, eqb-false, ne-eqb, ltb-true}
+use Rattle.lists.specs.Elements.{map-append, set-rel}
+use Rattle.lists.specs.Sums.{sum, sum-append, sum-map, sum-zero}
+use Rattle.lists.specs.Tests.{split, both, clash}
+use Rattle.lists.specs.Vector.{put}
+use Rattle.message.specs.Message.{message}
+use Rattle.message.specs.declared.Message.{Message}
+use Rattle.entry.specs.Entry.{messageCopy}
+use Rattle.entry.specs.declared.Entry.{Entry}
+use Rattle.handle.specs.declared.Handle.{Handle}
+use Rattle.inbox.specs.Inboxes.{inboxOf}
+use Rattle.rules.specs.Core.{sends, answers, notes, isAnswered, isNoted, coreAnswer}
+use Rattle.rules.specs.Deliver.{deliver, loses, copyTo, copies, each, handleNumbers}
+use Rattle.rules.specs.Handles.{handleAt, isOpen, inRole}
+use Rattle.rules.specs.Incoming.{followed, refusedMessage, isCopied, isUnhandled}
+use Rattle.rules.specs.Owed.{pending, roomOwed, owedRoom, roomTaken}
+use Rattle.rules.specs.State.{State, closedHandle, withHandles, withQueue, withNoted}
+use Rattle.transmission.specs.Transmission.{noOwner, ownerless, roomFor}
+use Rattle.transmission.specs.declared.Transmission.{Transmission}
+use Rattle.waits.specs.Waits.{Taken}
+use Rattle.rules.proofs.Entries.{messageCopy-shows}
+use Rattle.rules.proofs.Mail.{Mail, mail-same, mail-trans, copy-mail, arrives, delivered-inbox}
+
+-- a weight of transmissions that counts none without owner
+abbrev pub Owned : (Transmission → ℕ) → Type 0
+Owned f = (m : Message) → f (ownerless m) ≡ 0
+
+-- from s to t only copies came, and the core may have queued messages of its own
+pub record Aside (s t : State) : Type 0 where
+  pub handles : length (t .handles) ≡ length (s .handles)
+  pub inboxes : length (t .inboxes) ≡ length (s .inboxes)
+  pub opens : (h : ℕ) → isOpen t h ≡ isOpen s h
+  pub wire : t .wire ≡ s .wire
+  pub waits : t .waits ≡ s .waits
+  pub core : List Message
+  pub queue : t .queue ≡ s .queue ++ map ownerless core
+  pub fits : length (s .queue) ≤ 18 → length (t .queue) ≤ 18
+  pub mail : (h : ℕ) → Mail h s t []
+  pub room : (h : ℕ) → h < 8 → roomTaken s h ≤ 16 → roomTaken t h ≤ 16
+  pub none : (h : ℕ) → isOpen s h ≡ false → inboxOf (t .inboxes) h ≡ inboxOf (s .inboxes) h
+
+-- nothing at all, one after the other, one or nothing, and several
+pub aside-refl : (s : State) → Aside s s
+aside-refl s = record {
+  handles = refl;
+  inboxes = refl;
+  opens = λ h. refl;
+  wire = refl;
+  waits = refl;
+  core = [];
+  queue = sym (append-nil (s .queue));
+  fits = λ l. l;
+  mail = λ h. mail-same h s s refl;
+  room = λ h l r. r;
+  none = λ h e. refl;
+}
+
+pub aside-trans : (s t u : State) → Aside s t → Aside t u → Aside s u
+aside-trans s t u a b = record {
+  handles = b .handles ∙ a .handles;
+  inboxes = b .inboxes ∙ a .inboxes;
+  opens = λ h. b .opens h ∙ a .opens h;
+  wire = b .wire ∙ a .wire;
+  waits = b .waits ∙ a .waits;
+  core = a .core ++ b .core;
+  queue = b .queue ∙ rw (a .queue, append-assoc, map-append ownerless (a .core) (b .core));
+  fits = λ l. b .fits (a .fits l);
+  mail = λ h. mail-trans h s t u [] [] (a .mail h) (b .mail h);
+  room = λ h l r. b .room h l (a .room h l r);
+  none = λ h e. b .none h (a .opens h ∙ e) ∙ a .none h e;
+}
+
+pub aside-if : (b : Bool) (s t : State) → Aside s t → Aside s (cond b t s)
+aside-if true s t a = a
+aside-if false s t a = aside-refl s
+
+pub each-aside : {A : Type 0} (f : State → A → State) → ((s : State) (x : A) → Aside s (f s x)) → (s : State) (xs : List A) → Aside s (each f s xs)
+each-aside f k s [] = aside-refl s
+each-aside f k s (x ∷ xs) = aside-trans s (f s x) (each f (f s x) xs) (k s x) (each-aside f k (f s x) xs)
+
+-- what is pending, with what the core queued: weights that count none without owner are as they were
+pub aside-pending : (s t : State) (a : Aside s t) → pending t ≡ pending s ++ map ownerless (a .core)
+aside-pending s t a = rw (a .wire, a .queue) (sym (append-assoc (s .wire) (s .queue) (map ownerless (a .core))))
+
+pub core-weightless : (f : Transmission → ℕ) → Owned f → (ms : List Message) → sum f (map ownerless ms) ≡ 0
+core-weightless f z ms = sum-map f ownerless ms ∙ sum-zero (λ m. f (ownerless m)) ms z
+
+pub aside-sum : (f : Transmission → ℕ) → Owned f → (s t : State) → Aside s t → sum f (pending t) ≡ sum f (pending s)
+aside-sum f z s t a = rw (aside-pending s t a) (omega (arith, sum-append f (pending s) (map ownerless (a .core)), core-weightless f z (a .core)))
+
+-- no handle has the number that stands for no owner, so none is owed room for what has none
+pub no-owner : (h : ℕ) → h < 8 → eqb noOwner h ≡ false
+no-owner h l = ne-eqb noOwner h (λ (p : noOwner ≡ h). omega arith)
+
+pub room-owned : (h : ℕ) → h < 8 → Owned (roomFor h)
+room-owned h l m = rw (no-owner h l)
+
+-- and so is the room that a handle is owed
+pub aside-owed : (s t : State) → Aside s t → (h : ℕ) → h < 8 → owedRoom t h ≡ owedRoom s h
+unfolding roomOwed
+aside-owed s t a h l = rw (a .waits) (omega (arith, aside-sum (roomFor h) (room-owned h l) s t a))
+
+-- a copy: dropped and counted as lost, or delivered
+lost-aside : (s : State) (g : ℕ) → Aside s (withHandles s (set (s .handles) g (loses (handleAt s g))))
+lost-aside s g = record {
+  handles = length-set (s .handles) g (loses (handleAt s g));
+  inboxes = refl;
+  opens = λ h. set-rel (λ (x y : Handle). x .«is_open» ≡ y .«is_open») (λ x. refl) (s .handles) g h (loses (handleAt s g)) closedHandle refl;
+  wire = refl;
+  waits = refl;
+  core = [];
+  queue = sym (append-nil (s .queue));
+  fits = λ l. l;
+  mail = λ h. mail-same h s _ refl;
+  room = λ h l r. r;
+  none = λ h e. refl;
+}
+
+-- a copy is delivered only where entries plus owed room is not 16
+delivered-room : (s : State) (g : ℕ) (e : Entry) (h : ℕ) → eqb (roomTaken s g) 16 ≡ false → roomTaken s h ≤ 16 → roomTaken (deliver s g e) h ≤ 16
+delivered-room s g e h q r =
+    rw (delivered-inbox (s .inboxes) g e h, length-append)
+    (split (arrives (s .inboxes) g h)
+    (λ a.
+    let p = eqb-true g h (both (eqb g h) (ltb h (length (s .inboxes)) && ltb (length (inboxOf (s .inboxes) h)) 16) a .0) in
+    let d = rw p at (eqb-false (roomTaken s g) 16 q) in
+    rw a (omega arith))
+    (λ a. rw a (omega arith)))
+
+deliver-aside : (e : Entry) → e .sequence ≡ 0 → (s : State) (g : ℕ) → isOpen s g ≡ true → eqb (roomTaken s g) 16 ≡ false → Aside s (deliver s g e)
+deliver-aside e n s g o q = record {
+  handles = refl;
+  inboxes = length-set (s .inboxes) g (put 16 (inboxOf (s .inboxes) g) e);
+  opens = λ h. refl;
+  wire = refl;
+  waits = refl;
+  core = [];
+  queue = sym (append-nil (s .queue));
+  fits = λ l. l;
+  mail = λ h. copy-mail h s g e n;
+  room = λ h l r. delivered-room s g e h q r;
+  none = λ h c. split (eqb g h)
+      (λ p. clash o (rw (eqb-true g h p) c))
+      (λ p. delivered-inbox (s .inboxes) g e h ∙ rw p (append-nil (inboxOf (s .inboxes) h)));
+}
+
+copyTo-aside : (e : Entry) → e .sequence ≡ 0 → (s : State) (g : ℕ) → isOpen s g ≡ true → Aside s (copyTo e s g)
+unfolding copyTo
+copyTo-aside e n s g o = split (eqb (roomTaken s g) 16) (λ q. rw q (lost-aside s g)) (λ q. rw q (deliver-aside e n s g o q))
+
+-- copies for all handles in a role
+pub copies-aside : (p : ℕ → Bool) (e : Entry) → e .sequence ≡ 0 → (s : State) → Aside s (copies (inRole p) e s)
+unfolding copies
+copies-aside p e n s =
+    each-aside (λ t h. cond (inRole p (handleAt t h)) (copyTo e t h) t)
+    (λ t h. split (inRole p (handleAt t h))
+    (λ q. rw q (copyTo-aside e n t h (both (isOpen t h) (p (handleAt t h .mode)) q .0)))
+    (λ q. rw q (aside-refl t)))
+    s
+    handleNumbers
+
+-- what the core sends
+sent-aside : (s : State) (m : Message) → length (s .queue) < 18 → Aside s (withQueue s (s .queue ++ (ownerless m ∷ [])))
+unfolding roomOwed
+sent-aside s m k = record {
+  handles = refl;
+  inboxes = refl;
+  opens = λ h. refl;
+  wire = refl;
+  waits = refl;
+  core = m ∷ [];
+  queue = refl;
+  fits = λ l. rw length-append (omega arith);
+  mail = λ h. mail-same h s _ refl;
+  room = λ h l r. omega (arith, r, sum-append (roomFor h) (s .wire) (s .queue ++ (ownerless m ∷ [])), sum-append (roomFor h) (s .wire) (s .queue), sum-append (roomFor h) (s .queue) (ownerless m ∷ []), room-owned h l m);
+  none = λ h e. refl;
+}
+
+-- it is queued, or dropped if the queue is full or TRANSMIT is absent
+pub sends-aside : (s : State) (bytes : List ℕ) → Aside s (sends s bytes)
+unfolding sends
+sends-aside s bytes = aside-if (s .capabilities .transmit) s (withQueue s (put 18 (s .queue) (ownerless (message (length bytes) bytes))))
+    (split (ltb (length (s .queue)) 18)
+    (λ q. rw q (sent-aside s (message (length bytes) bytes) (ltb-true (length (s .queue)) 18 q)))
+    (λ q. rw q (aside-refl s)))
+
+-- the steps of a message from the wire that end no wait
+noted-aside : (s : State) (x : List ℕ) → Aside s (withNoted s x)
+noted-aside s x = record {
+  handles = refl;
+  inboxes = refl;
+  opens = λ h. refl;
+  wire = refl;
+  waits = refl;
+  core = [];
+  queue = sym (append-nil (s .queue));
+  fits = λ l. l;
+  mail = λ h. mail-same h s (withNoted s x) refl;
+  room = λ h l r. r;
+  none = λ h e. refl;
+}
+
+pub notes-aside : (s : State) (m : Message) → Aside s (notes s m)
+unfolding notes
+notes-aside s m = aside-if (isNoted m) s _ (noted-aside s _)
+
+pub answers-aside : (s : State) (m : Message) → Aside s (answers s m)
+unfolding answers
+answers-aside s m = aside-if (isAnswered s m) s _ (sends-aside s (coreAnswer (s .settings) m))
+
+pub followed-aside : (s : State) (t : Taken) (m : Message) → Aside s (followed s t m)
+followed-aside s t m = aside-if (isCopied s t m) s _ (copies-aside _ (messageCopy m) (messageCopy-shows m .sequence) s)
+
+pub refusedMessage-aside : (s : State) (t : Taken) (m : Message) → Aside s (refusedMessage s t m)
+refusedMessage-aside s t m = aside-if (isUnhandled s t m) s _ (sends-aside s _)
