@@ -1,6 +1,5 @@
 // The known answers of document 01, asked of the code: one line for each case with what it gave.
 use adapter::Adapter;
-use adapter::Received;
 use constants::CEC_TX_STATUS_OK;
 use entry::Counts;
 use settings::Settings;
@@ -54,32 +53,59 @@ fn request(length: u8, first: u8, opcode: u8, reply: u8) -> Request {
     }
 }
 
-// 40 8F was sent and its result received; then some bytes came, and a receive.
-fn asked(length: u8, first: u8, second: u8, third: u8) -> Received {
+// What a case gave: an errno, and a status where there is one.
+struct Given {
+    errno: u32,
+    status: u32,
+}
+
+fn poll() -> Given {
+    let answer = bench(true).transmit(0, request(1, 0x44, 0, 0));
+    Given {
+        errno: answer.errno,
+        status: answer.tx_status as u32,
+    }
+}
+
+// 40 8F is on the wire.
+fn sending(reply: u8) -> Adapter {
+    bench(true)
+        .transmit(0, request(2, 0x40, 0x8F, reply))
+        .adapter
+        .bus_start()
+        .adapter
+}
+
+// 40 8F was sent, wants 90, and its result was received.
+fn waiting() -> Adapter {
+    sending(0x90)
+        .bus_result(CEC_TX_STATUS_OK, Counts::none())
+        .adapter
+        .receive(0)
+        .adapter
+}
+
+// Then some bytes came, and a receive.
+fn asked(length: u8, first: u8, second: u8, third: u8) -> Given {
     let mut bytes = [0; 16];
     bytes[0] = first;
     bytes[1] = second;
     bytes[2] = third;
-    let sent = bench(true)
-        .transmit(0, request(2, 0x40, 0x8F, 0x90))
-        .adapter
-        .bus_start()
-        .adapter;
-    let waiting = sent.bus_result(CEC_TX_STATUS_OK, Counts::none())
-        .adapter
-        .receive(0)
-        .adapter;
-    waiting.message(length, bytes).adapter.receive(0)
+    let answer = waiting().message(length, bytes).adapter.receive(0);
+    Given {
+        errno: answer.errno,
+        status: answer.entry.rx_status as u32,
+    }
 }
 
 // The errno of a result of this status.
 fn result(status: u8) -> u32 {
-    let sent = bench(true)
-        .transmit(0, request(2, 0x40, 0x8F, 0))
-        .adapter
-        .bus_start()
-        .adapter;
-    sent.bus_result(status, Counts::none()).errno
+    sending(0).bus_result(status, Counts::none()).errno
+}
+
+// The errno of a message of this length.
+fn message(length: u8) -> u32 {
+    bench(true).message(length, [0x0F; 16]).errno
 }
 
 fn one(adapter: Adapter, handle: u8) -> Adapter {
@@ -90,10 +116,27 @@ fn four(adapter: Adapter, handle: u8) -> Adapter {
     one(one(one(one(adapter, handle), handle), handle), handle)
 }
 
-// 17 queued: 9 of handle 0, 8 of handle 1.
-fn seventeen() -> Adapter {
-    let two = bench(true).open(false).adapter;
-    one(four(four(four(four(two, 0), 0), 1), 1), 0)
+// 16 queued: 8 of handle 0, 8 of handle 1.
+fn sixteen() -> Adapter {
+    four(
+        four(four(four(bench(true).open(false).adapter, 0), 0), 1),
+        1,
+    )
+}
+
+// The errno of the 18th, and of the 19th.
+fn eighteenth() -> u32 {
+    one(sixteen(), 0).transmit(1, request(2, 0x40, 0x8F, 0))
+        .errno
+}
+
+fn nineteenth() -> u32 {
+    one(one(sixteen(), 0), 1).transmit(1, request(2, 0x40, 0x8F, 0))
+        .errno
+}
+
+fn last_number() -> u32 {
+    Traffic::none().next_number(4294967295)
 }
 
 fn main() {
@@ -101,18 +144,15 @@ fn main() {
     line(b"mode 0x30: errno ", mode(true, 0x30));
     line(b"mode 0xE1, no privilege: errno ", mode(false, 0xE1));
     line(b"mode 0xE0, no privilege: errno ", mode(false, 0xE0));
-    let poll = bench(true).transmit(0, request(1, 0x44, 0, 0));
-    say(b"poll 44: errno ", poll.errno);
-    line(b", tx_status ", poll.tx_status as u32);
-    let replied = asked(3, 0x04, 0x90, 0x00);
+    say(b"poll 44: errno ", poll().errno);
+    line(b", tx_status ", poll().status);
     line(
         b"sent 40 8F wants 90, came 04 90 00: rx_status ",
-        replied.entry.rx_status as u32,
+        asked(3, 0x04, 0x90, 0x00).status,
     );
-    let aborted = asked(4, 0x04, 0x00, 0x8F);
     line(
         b"same, came 04 00 8F 00: rx_status ",
-        aborted.entry.rx_status as u32,
+        asked(4, 0x04, 0x00, 0x8F).status,
     );
     line(
         b"same, came 04 00: receive, errno ",
@@ -124,23 +164,9 @@ fn main() {
     );
     line(b"result 0x21: errno ", result(0x21));
     line(b"result 0x02: errno ", result(0x02));
-    line(
-        b"last number 4294967295: next is ",
-        Traffic::none().next_number(4294967295),
-    );
-    line(
-        b"message of 16 bytes: errno ",
-        bench(true).message(16, [0x0F; 16]).errno,
-    );
-    line(
-        b"message of 17 bytes: errno ",
-        bench(true).message(17, [0x0F; 16]).errno,
-    );
-    let eighteenth = seventeen().transmit(1, request(2, 0x40, 0x8F, 0));
-    line(b"18th queued: errno ", eighteenth.errno);
-    line(
-        b"19th queued: errno ",
-        one(seventeen(), 1).transmit(1, request(2, 0x40, 0x8F, 0))
-            .errno,
-    );
+    line(b"last number 4294967295: next is ", last_number());
+    line(b"message of 16 bytes: errno ", message(16));
+    line(b"message of 17 bytes: errno ", message(17));
+    line(b"18th queued: errno ", eighteenth());
+    line(b"19th queued: errno ", nineteenth());
 }

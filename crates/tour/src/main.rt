@@ -11,6 +11,7 @@ use constants::CEC_TX_STATUS_MAX_RETRIES;
 use constants::CEC_TX_STATUS_NACK;
 use constants::CEC_TX_STATUS_OK;
 use entry::Counts;
+use entry::Entry;
 use settings::Settings;
 use transmit::request::Request;
 
@@ -116,16 +117,24 @@ fn asked(adapter: Adapter, handle: u8, device: u8) -> Adapter {
     )
 }
 
-// The next message goes out and comes to its end.
-fn sent(adapter: Adapter, status: u8, counts: Counts) -> Adapter {
-    let start = adapter.bus_start();
-    say_number(b"wire: start, errno ", start.errno);
-    say_number(b", to ", start.message.destination() as u32);
-    let end = start.adapter.bus_result(status, counts);
-    say_number(b"; result, errno ", end.errno);
+fn started(adapter: Adapter) -> Adapter {
+    let answer = adapter.bus_start();
+    say_number(b"wire: start, errno ", answer.errno);
+    say_number(b", to ", answer.message.destination() as u32);
+    answer.adapter
+}
+
+fn ended(adapter: Adapter, status: u8, counts: Counts) -> Adapter {
+    let answer = adapter.bus_result(status, counts);
+    say_number(b"; result, errno ", answer.errno);
     say_number(b", status ", status as u32);
     say(b"\n");
-    end.adapter
+    answer.adapter
+}
+
+// The next message goes out and comes to its end.
+fn sent(adapter: Adapter, status: u8, counts: Counts) -> Adapter {
+    ended(started(adapter), status, counts)
 }
 
 // A message of three bytes comes from the wire.
@@ -145,20 +154,27 @@ fn answered(adapter: Adapter, from: u8, opcode: u8, third: u8) -> Adapter {
     came(adapter, from, BOX, opcode, third)
 }
 
-fn received(adapter: Adapter, handle: u8) -> Adapter {
-    let answer = adapter.receive(handle);
-    let entry = answer.entry;
-    say_program(handle);
-    if answer.errno != 0 {
-        say_number(b": receive, errno ", answer.errno);
-        say(b"\n");
-        return answer.adapter;
-    }
+fn say_entry(entry: Entry) {
     say_number(b": receive, number ", entry.sequence);
     say_number(b", tx_status ", entry.tx_status as u32);
     say_number(b", rx_status ", entry.rx_status as u32);
     say_number(b", opcode ", entry.message.opcode() as u32);
     say(b"\n");
+}
+
+fn say_received(errno: u32, entry: Entry) {
+    if errno == 0 {
+        say_entry(entry);
+    } else {
+        say_number(b": receive, errno ", errno);
+        say(b"\n");
+    }
+}
+
+fn received(adapter: Adapter, handle: u8) -> Adapter {
+    say_program(handle);
+    let answer = adapter.receive(handle);
+    say_received(answer.errno, answer.entry);
     answer.adapter
 }
 
@@ -254,39 +270,36 @@ fn refused(adapter: Adapter) -> Adapter {
     received(received(now, CHART), CHART)
 }
 
+fn monitoring(adapter: Adapter) -> Adapter {
+    let answer = adapter.mode(MONITOR, CEC_MODE_MONITOR);
+    say_number(b"monitor: mode, errno ", answer.errno);
+    say(b"\n");
+    answer.adapter
+}
+
 // A monitor has room for 16 copies.
 fn watched(adapter: Adapter) -> Adapter {
-    let mut now = opened(adapter, true);
-    say_number(
-        b"monitor: mode, errno ",
-        now.mode(MONITOR, CEC_MODE_MONITOR).errno,
-    );
-    say(b"\n");
-    now = now.mode(MONITOR, CEC_MODE_MONITOR).adapter;
-    now = nine_told(nine_told(now));
+    let now = nine_told(nine_told(monitoring(opened(adapter, true))));
     say(b"wire: 18 messages from 0 to all\n");
     received(received(now, MONITOR), CAMERA)
 }
 
-// One transmit waits for its reply, one is queued: the address is taken away.
-fn unconfigured(adapter: Adapter) -> Adapter {
-    let mut now = asked(adapter, CAMERA, DISPLAY);
-    now = sent(now, CEC_TX_STATUS_OK, Counts::none());
-    now = asked(now, CHART, AMPLIFIER);
-    let answer = now.unconfigure();
+fn address_gone(adapter: Adapter) -> Adapter {
+    let answer = adapter.unconfigure();
     say_number(b"box: unconfigure, errno ", answer.errno);
     say(b"\n");
-    now = read_out(answer.adapter);
-    transmitted(
-        now,
-        CHART,
-        request(
-            BOX,
-            AMPLIFIER,
-            CEC_MSG_GIVE_DEVICE_POWER_STATUS,
-            CEC_MSG_REPORT_POWER_STATUS,
-        ),
-    )
+    answer.adapter
+}
+
+// One transmit waits for its reply, one is queued: the address is taken away.
+fn unconfigured(adapter: Adapter) -> Adapter {
+    let waiting = sent(
+        asked(adapter, CAMERA, DISPLAY),
+        CEC_TX_STATUS_OK,
+        Counts::none(),
+    );
+    let now = read_out(address_gone(asked(waiting, CHART, AMPLIFIER)));
+    asked(now, CHART, AMPLIFIER)
 }
 
 fn main() {
