@@ -7,20 +7,20 @@ use mathlib.Core.Logic.{_≢_}
 use mathlib.Core.Path.{_≡_, refl, ap, _∙_, sym}
 use native.Mathlib.Omega.{arith}
 use borrow.Author.Tests.{ne-eqb, le-ltb}
+use Rattle.guarantee.proofs.Carried.{sentAs, always, sendingAs, waitingAs, sending, waiting, unused, sending-less}
+use Rattle.guarantee.proofs.Cases.{enqueued}
+use Rattle.guarantee.proofs.Flow.{wanting, unwanting, longer}
+use Rattle.guarantee.proofs.Invariant.{Inv, open-below, next-unused, next-some}
+use Rattle.guarantee.proofs.QueuedKept.{sum-queued}
 use Rattle.lists.specs.Tests.{bit, eqb-refl}
+use Rattle.rules.proofs.Accepted.{transmit-queued}
 use Rattle.rules.specs.Call.{Request, accepted, callTransmit}
 use Rattle.rules.specs.Handles.{isOpen}
 use Rattle.rules.specs.Number.{nextNumber}
 use Rattle.rules.specs.State.{State, withQueue, withLast}
 use Rattle.rules.specs.Step.{step}
 use Rattle.rules.specs.Transmit.{transmissionOf, wantsReply, timeoutOf}
-use Rattle.rules.proofs.Accepted.{transmit-queued}
 use Rattle.transmission.specs.declared.Transmission.{Transmission}
-use Rattle.guarantee.proofs.Carried.{sentAs, always, sendingAs, waitingAs, sending, waiting, unused, sending-less}
-use Rattle.guarantee.proofs.Cases.{enqueued}
-use Rattle.guarantee.proofs.Flow.{wanting, unwanting, longer}
-use Rattle.guarantee.proofs.Invariant.{Inv, open-below, next-unused, next-some}
-use Rattle.guarantee.proofs.QueuedKept.{sum-queued}
 
 pub record Began (h : ℕ) (x : Request) (n : ℕ) (s : State) : Type 0 where
   pub home : h < 8

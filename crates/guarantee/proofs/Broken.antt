@@ -5,16 +5,16 @@ use mathlib.Core.List.{List, [], _∷_}
 use mathlib.Core.Path.{refl, ap}
 use native.Mathlib.Omega.{arith}
 use lib.ListN.{length, replicate}
-use Rattle.message.specs.Message.{message}
-use Rattle.message.specs.declared.Message.{Message}
 use Rattle.entry.specs.Entry.{noCounts, result, reply, messageCopy}
 use Rattle.entry.specs.declared.Entry.{Entry}
+use Rattle.guarantee.proofs.Histories.{asks}
 use Rattle.guarantee.specs.Claim.{Kept}
+use Rattle.message.specs.Message.{message}
+use Rattle.message.specs.declared.Message.{Message}
 use Rattle.rules.specs.Call.{Call, Answer, done, opened, accepted, callOpen, callClose, callTransmit, callBusResult, callMessage, callTime}
 use Rattle.rules.specs.Open.{openedHandle}
 use Rattle.rules.specs.State.{State, closedHandle, noSettings, noneNoted}
 use Rattle.rules.specs.Step.{Step}
-use Rattle.guarantee.proofs.Histories.{asks}
 
 -- a message, whatever it says
 abbrev m : Message

@@ -11,22 +11,22 @@ use lib.ListN.{length}
 use lib.Seq.{drop-append-seam}
 use borrow.Author.Tests.{ne-eqb}
 use Rattle.constants.specs.Kernel.{CEC-TX-STATUS-OK}
-use Rattle.lists.specs.Sums.{sum, sum-append, sum-map, sum-keep, sum-same, sum-zero, sum-le, count, keep}
-use Rattle.lists.specs.Tests.{bit, split, and-false, and-true, and-cond}
 use Rattle.entry.specs.declared.Entry.{Entry}
-use Rattle.inbox.specs.Inboxes.{inboxOf}
-use Rattle.rules.specs.Call.{Call, Outcome, finish, done}
-use Rattle.rules.specs.Handles.{hasBit}
-use Rattle.rules.specs.State.{State}
-use Rattle.rules.proofs.Mail.{Numbered}
-use Rattle.transmission.specs.declared.Transmission.{Transmission}
-use Rattle.wait.specs.Wait.{ownedBy}
-use Rattle.wait.specs.declared.Wait.{Wait}
-use Rattle.guarantee.specs.Seen.{came, isResult, isReplyEntry, isOkResult}
 use Rattle.guarantee.proofs.Carried.{sentAs, awaitedAs, always}
 use Rattle.guarantee.proofs.Cases.{stepFrom, Silent}
 use Rattle.guarantee.proofs.Comes.{entriesTo}
 use Rattle.guarantee.proofs.Ends.{Ends}
+use Rattle.guarantee.specs.Seen.{came, isResult, isReplyEntry, isOkResult}
+use Rattle.inbox.specs.Inboxes.{inboxOf}
+use Rattle.lists.specs.Sums.{sum, sum-append, sum-map, sum-keep, sum-same, sum-zero, sum-le, count, keep}
+use Rattle.lists.specs.Tests.{bit, split, and-false, and-true, and-cond}
+use Rattle.rules.proofs.Mail.{Numbered}
+use Rattle.rules.specs.Call.{Call, Outcome, finish, done}
+use Rattle.rules.specs.Handles.{hasBit}
+use Rattle.rules.specs.State.{State}
+use Rattle.transmission.specs.declared.Transmission.{Transmission}
+use Rattle.wait.specs.Wait.{ownedBy}
+use Rattle.wait.specs.declared.Wait.{Wait}
 
 -- how many entries of a kind come to handle h
 unfoldable pub brought : (Entry → Bool) → ℕ → State → Call → Outcome → ℕ

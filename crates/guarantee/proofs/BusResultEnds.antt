@@ -10,28 +10,28 @@ use lib.Dec.{eqb, ltb}
 use lib.ListN.{length, drop, length-set}
 use borrow.Author.Tests.{lt-ltb}
 use Rattle.constants.specs.Kernel.{CEC-TX-STATUS-OK}
-use Rattle.lists.specs.Last.{last, last-more, last-tail}
-use Rattle.lists.specs.Sums.{sum, sum-append, count}
-use Rattle.lists.specs.Tests.{bit, split, both}
 use Rattle.entry.specs.Entry.{result, resultCopy, timedOut}
 use Rattle.entry.specs.declared.Counts.{Counts}
 use Rattle.entry.specs.declared.Entry.{Entry}
+use Rattle.guarantee.proofs.Carried.{sentAs, awaitedAs, waitingAs}
+use Rattle.guarantee.proofs.Comes.{comes}
+use Rattle.guarantee.proofs.Ends.{Ends, begins, shown-reply}
+use Rattle.guarantee.proofs.Invariant.{Inv, improper, improperWait, spent, few}
+use Rattle.lists.specs.Last.{last, last-more, last-tail}
+use Rattle.lists.specs.Sums.{sum, sum-append, count}
+use Rattle.lists.specs.Tests.{bit, split, both}
+use Rattle.rules.proofs.Aside.{Owned, Aside, copies-aside, core-weightless, room-owned}
+use Rattle.rules.proofs.Entries.{result-shows, resultCopy-shows, timedOut-shows}
 use Rattle.rules.specs.BusResult.{concluded, begun, waitFor}
 use Rattle.rules.specs.Call.{callBusResult}
 use Rattle.rules.specs.Deliver.{copies}
 use Rattle.rules.specs.Handles.{isMonitor, hasBit, inRole}
 use Rattle.rules.specs.Owed.{pending, roomOwed, owedRoom}
 use Rattle.rules.specs.State.{State}
-use Rattle.rules.proofs.Aside.{Owned, Aside, copies-aside, core-weightless, room-owned}
-use Rattle.rules.proofs.Entries.{result-shows, resultCopy-shows, timedOut-shows}
 use Rattle.transmission.specs.Transmission.{ownerless, roomFor}
 use Rattle.transmission.specs.declared.Transmission.{Transmission}
 use Rattle.wait.specs.Wait.{ownedBy}
 use Rattle.wait.specs.declared.Wait.{Wait}
-use Rattle.guarantee.proofs.Carried.{sentAs, awaitedAs, waitingAs}
-use Rattle.guarantee.proofs.Comes.{comes}
-use Rattle.guarantee.proofs.Ends.{Ends, begins, shown-reply}
-use Rattle.guarantee.proofs.Invariant.{Inv, improper, improperWait, spent, few}
 
 -- the wait of a proper transmission has a handle, a number and time left
 pub wait-proper : (x : Transmission) → improper x ≡ 0 → x .«wants_reply» ≡ true → (spent (waitFor x) ≡ 0) × (improperWait (waitFor x) ≡ 0)

@@ -10,16 +10,26 @@ use lib.Dec.{eqb, ltb}
 use lib.ListN.{length, getD, set, drop, length-set}
 use borrow.Author.Tests.{eqb-true, eqb-false, not-true, not-false, lt-ltb}
 use Rattle.constants.specs.Kernel.{EBADF, EMFILE, EAGAIN, EBUSY, EINVAL, CEC-TX-STATUS-NACK, CEC-PHYS-ADDR-INVALID}
+use Rattle.entry.specs.Entry.{noEntry}
+use Rattle.entry.specs.declared.Counts.{Counts}
+use Rattle.entry.specs.declared.Entry.{Entry}
+use Rattle.guarantee.proofs.BusResultEnds.{busResult-ends}
+use Rattle.guarantee.proofs.Cases.{Cases, Quiet, calm, enqueued, stepFrom, same-came, closed-came, received-came}
+use Rattle.guarantee.proofs.Invariant.{Inv, open-below}
+use Rattle.guarantee.proofs.MessageEnds.{message-ends}
+use Rattle.guarantee.proofs.TimeEnds.{time-ends}
+use Rattle.guarantee.proofs.UnconfigureEnds.{unconfigure-ends}
+use Rattle.guarantee.specs.Seen.{milliseconds, opensTo, doneBy, isClose, isReceive, isBusResult, givenBy, givesTo}
+use Rattle.handle.specs.declared.Handle.{Handle}
+use Rattle.inbox.specs.Inboxes.{inboxOf}
 use Rattle.lists.specs.Elements.{set-rel}
 use Rattle.lists.specs.Places.{first-le, first-passes}
 use Rattle.lists.specs.Tests.{split, both, clash}
 use Rattle.lists.specs.Vector.{put}
 use Rattle.message.specs.Message.{message}
-use Rattle.entry.specs.Entry.{noEntry}
-use Rattle.entry.specs.declared.Counts.{Counts}
-use Rattle.entry.specs.declared.Entry.{Entry}
-use Rattle.handle.specs.declared.Handle.{Handle}
-use Rattle.inbox.specs.Inboxes.{inboxOf}
+use Rattle.rules.proofs.Accepted.{Roomy, all-passed}
+use Rattle.rules.proofs.Checks.{passed}
+use Rattle.rules.proofs.Refused.{differ}
 use Rattle.rules.specs.BusResult.{doBusResult, isFinal, keptCounts, concluded}
 use Rattle.rules.specs.BusStart.{doBusStart}
 use Rattle.rules.specs.Call.{Call, Request, Answer, Outcome, finish, unless, refused, done, accepted, received, started, listed, address, callOpen, callClose, callMode, callTransmit, callReceive, callBusStart, callBusResult, callMessage, callTime, callConfigure, callUnconfigure, callListing, callLookup}
@@ -38,19 +48,9 @@ use Rattle.rules.specs.Step.{step}
 use Rattle.rules.specs.Time.{doTime}
 use Rattle.rules.specs.Transmit.{doTransmit, isSelfPoll, polled, queued}
 use Rattle.rules.specs.Unconfigure.{doUnconfigure}
-use Rattle.rules.proofs.Accepted.{Roomy, all-passed}
-use Rattle.rules.proofs.Checks.{passed}
-use Rattle.rules.proofs.Refused.{differ}
 use Rattle.settings.specs.declared.Settings.{Settings}
 use Rattle.transmission.specs.Transmission.{headOf}
 use Rattle.transmission.specs.declared.Transmission.{Transmission}
-use Rattle.guarantee.specs.Seen.{milliseconds, opensTo, doneBy, isClose, isReceive, isBusResult, givenBy, givesTo}
-use Rattle.guarantee.proofs.BusResultEnds.{busResult-ends}
-use Rattle.guarantee.proofs.Cases.{Cases, Quiet, calm, enqueued, stepFrom, same-came, closed-came, received-came}
-use Rattle.guarantee.proofs.Invariant.{Inv, open-below}
-use Rattle.guarantee.proofs.MessageEnds.{message-ends}
-use Rattle.guarantee.proofs.TimeEnds.{time-ends}
-use Rattle.guarantee.proofs.UnconfigureEnds.{unconfigure-ends}
 
 -- a status that is final is not 0
 final-some : (status : ℕ) → isFinal status ≡ true → status ≢ 0

@@ -8,10 +8,10 @@ use lib.Dec.{eqb}
 use Rattle.lists.specs.Last.{last}
 use Rattle.lists.specs.Sums.{sum, sum-le}
 use Rattle.lists.specs.Tests.{bit, split}
-use Rattle.rules.specs.Owed.{pending}
-use Rattle.rules.specs.State.{State}
 use Rattle.rules.proofs.Aside.{Owned, no-owner}
 use Rattle.rules.proofs.Numbers.{carriedBy}
+use Rattle.rules.specs.Owed.{pending}
+use Rattle.rules.specs.State.{State}
 use Rattle.transmission.specs.Transmission.{numbered}
 use Rattle.transmission.specs.declared.Transmission.{Transmission}
 use Rattle.wait.specs.Wait

@@ -9,10 +9,12 @@ use lib.Dec.{eqb}
 use lib.ListN.{length, getD, set}
 use lib.Seq.{getD-set-same, getD-set-other, drop-length}
 use borrow.Author.Tests.{eqb-true, eqb-false}
-use Rattle.lists.specs.Tests.{bit, split}
 use Rattle.entry.specs.declared.Entry.{Entry}
+use Rattle.guarantee.proofs.Ends.{Ends}
+use Rattle.guarantee.specs.Seen.{came, gave, opens, closes, opensTo, givesTo, givenBy, doneBy, isClose, isReceive, isBusResult, milliseconds}
 use Rattle.handle.specs.declared.Handle.{Handle}
 use Rattle.inbox.specs.Inboxes.{inboxOf}
+use Rattle.lists.specs.Tests.{bit, split}
 use Rattle.rules.specs.Call.{Call, Request, Answer, Outcome, finish, done, opened, accepted, received, started, callOpen, callClose, callTransmit, callReceive, callBusStart}
 use Rattle.rules.specs.Close.{closed}
 use Rattle.rules.specs.Handles.{isOpen}
@@ -24,8 +26,6 @@ use Rattle.rules.specs.Step.{Step}
 use Rattle.rules.specs.Transmit.{transmissionOf, wantsReply}
 use Rattle.settings.specs.declared.Settings.{Settings}
 use Rattle.transmission.specs.declared.Transmission.{Transmission}
-use Rattle.guarantee.specs.Seen.{came, gave, opens, closes, opensTo, givesTo, givenBy, doneBy, isClose, isReceive, isBusResult, milliseconds}
-use Rattle.guarantee.proofs.Ends.{Ends}
 
 -- a call with its outcome, as a step of a history
 abbrev pub stepFrom : State → Call → Outcome → Step

@@ -4,16 +4,6 @@ use Prim.Native.Nat.{ℕ}
 use mathlib.Core.Bool.{true}
 use mathlib.Core.List.{List, [], _∷_, _++_}
 use mathlib.Core.Path.{_≡_, ap, _∙_, sym}
-use Rattle.lists.specs.Sums.{any}
-use Rattle.lists.specs.Tests.{split, clash}
-use Rattle.inbox.specs.Inboxes.{inboxOf}
-use Rattle.rules.specs.Call.{Call, Request, accepted, callTransmit}
-use Rattle.rules.specs.Cases.{after}
-use Rattle.rules.specs.Handles.{isOpen}
-use Rattle.rules.specs.State.{State, Capabilities, fresh}
-use Rattle.rules.specs.Step.{Step, step, run}
-use Rattle.guarantee.specs.Claim.{Fate, Claim}
-use Rattle.guarantee.specs.Seen.{opens, came, gave, sinceOpen, all}
 use Rattle.guarantee.proofs.Began.{began}
 use Rattle.guarantee.proofs.Fate.{fate}
 use Rattle.guarantee.proofs.Invariant.{open-below}
@@ -21,6 +11,15 @@ use Rattle.guarantee.proofs.Keeps.{keeps}
 use Rattle.guarantee.proofs.Parts.{parted, last-after}
 use Rattle.guarantee.proofs.Reached.{fresh-closed, fresh-inv, reached}
 use Rattle.guarantee.proofs.Since.{no-open, since-open}
+use Rattle.guarantee.specs.Claim.{Fate, Claim}
+use Rattle.guarantee.specs.Seen.{opens, came, gave, sinceOpen, all}
+use Rattle.inbox.specs.Inboxes.{inboxOf}
+use Rattle.lists.specs.Sums.{any}
+use Rattle.lists.specs.Tests.{split, clash}
+use Rattle.rules.specs.Call.{Call, Request, accepted, callTransmit}
+use Rattle.rules.specs.Handles.{isOpen}
+use Rattle.rules.specs.State.{State, Capabilities, fresh}
+use Rattle.rules.specs.Step.{after, Step, step, run}
 
 -- a transmit that was accepted and queued
 transmits-kept : (c : Capabilities) (calls : List Call) (past : List Step) (x : Step) (later : List Step) → run (fresh c) calls ≡ past ++ x ∷ later → (h : ℕ) (r : Request) (n : ℕ) → x .call ≡ callTransmit h r → x .answer ≡ accepted n 0 → Fate h r n later

@@ -6,24 +6,24 @@ use mathlib.Core.Path.{_≡_, refl, _∙_}
 use native.Mathlib.Omega.{arith}
 use lib.Dec.{eqb}
 use borrow.Author.Tests.{eqb-true}
-use Rattle.lists.specs.Last.{last-map}
-use Rattle.lists.specs.Sums.{sum, sum-same, sum-zero, sum-keep, sum-keep-le}
-use Rattle.lists.specs.Tests.{split, clash}
-use Rattle.rules.specs.Call.{finish, done, callClose}
-use Rattle.rules.specs.Close.{closed}
-use Rattle.rules.specs.Owed.{pending}
-use Rattle.rules.specs.State.{State}
-use Rattle.rules.proofs.Aside.{no-owner}
-use Rattle.transmission.specs.Transmission.{orphaned}
-use Rattle.transmission.specs.declared.Transmission.{Transmission}
-use Rattle.wait.specs.Wait.{ownedBy}
-use Rattle.wait.specs.declared.Wait.{Wait}
-use Rattle.guarantee.specs.Seen.{isResult, isReplyEntry, isOkResult}
 use Rattle.guarantee.proofs.Brought.{silent-brought}
 use Rattle.guarantee.proofs.Carried.{sentAs, awaitedAs, always, sendingAs, waitingAs, placed}
 use Rattle.guarantee.proofs.Cases.{Silent}
 use Rattle.guarantee.proofs.ClosedKept.{pending-closed, sum-closed}
 use Rattle.guarantee.proofs.Flow.{Flow, wanting, later}
+use Rattle.guarantee.specs.Seen.{isResult, isReplyEntry, isOkResult}
+use Rattle.lists.specs.Last.{last-map}
+use Rattle.lists.specs.Sums.{sum, sum-same, sum-zero, sum-keep, sum-keep-le}
+use Rattle.lists.specs.Tests.{split, clash}
+use Rattle.rules.proofs.Aside.{no-owner}
+use Rattle.rules.specs.Call.{finish, done, callClose}
+use Rattle.rules.specs.Close.{closed}
+use Rattle.rules.specs.Owed.{pending}
+use Rattle.rules.specs.State.{State}
+use Rattle.transmission.specs.Transmission.{orphaned}
+use Rattle.transmission.specs.declared.Transmission.{Transmission}
+use Rattle.wait.specs.Wait.{ownedBy}
+use Rattle.wait.specs.declared.Wait.{Wait}
 
 module _ (h n : ℕ) (l : h < 8) (s : State) (g : ℕ) where
   -- a transmission of h, if another handle is closed, and if h is

@@ -10,22 +10,22 @@ use lib.Dec.{eqb}
 use lib.ListN.{length, length-map, length-set}
 use lib.Seq.{getD-set-same, getD-set-other}
 use borrow.Author.Tests.{eqb-true, eqb-false, ne-eqb}
+use Rattle.entry.specs.declared.Entry.{Entry}
+use Rattle.guarantee.proofs.Invariant.{Inv, improper, improperWait, spent}
+use Rattle.handle.specs.declared.Handle.{Handle}
 use Rattle.lists.specs.Elements.{map-append, set-rel}
 use Rattle.lists.specs.Sums.{sum, sum-map, sum-le, sum-zero, sum-keep, sum-keep-le}
 use Rattle.lists.specs.Tests.{bit, split}
-use Rattle.entry.specs.declared.Entry.{Entry}
-use Rattle.handle.specs.declared.Handle.{Handle}
+use Rattle.rules.proofs.Aside.{Owned, no-owner, room-owned}
+use Rattle.rules.proofs.Numbers.{carriedBy}
 use Rattle.rules.specs.Close.{closed}
 use Rattle.rules.specs.Owed.{pending, roomOwed, repliesWanted, roomTaken}
 use Rattle.rules.specs.State.{State, closedHandle}
-use Rattle.rules.proofs.Aside.{Owned, no-owner, room-owned}
-use Rattle.rules.proofs.Numbers.{carriedBy}
 use Rattle.transmission.specs.Transmission.{orphaned, roomFor, replyFor, numbered}
 use Rattle.transmission.specs.declared.Transmission.{Transmission}
-use Rattle.wait.specs.Wait.{ownedBy}
 use Rattle.wait.specs.Wait
+use Rattle.wait.specs.Wait.{ownedBy}
 use Rattle.wait.specs.declared.Wait.{Wait}
-use Rattle.guarantee.proofs.Invariant.{Inv, improper, improperWait, spent}
 
 -- what is pending loses the handle as its owner
 pub pending-closed : (s : State) (g : ℕ) → pending (closed s g) ≡ map (orphaned g) (pending s)

@@ -7,19 +7,19 @@ use mathlib.Core.Path.{_≡_, refl, ap, _∙_}
 use native.Mathlib.Omega.{arith}
 use lib.Dec.{eqb}
 use lib.ListN.{length}
-use Rattle.lists.specs.Sums.{sum, sum-append, count, keep}
 use Rattle.entry.specs.declared.Entry.{Entry}
+use Rattle.guarantee.proofs.Invariant.{Inv}
 use Rattle.inbox.specs.Inboxes.{inboxOf}
+use Rattle.lists.specs.Sums.{sum, sum-append, count, keep}
+use Rattle.rules.proofs.Aside.{Aside, aside-owed}
+use Rattle.rules.proofs.Mail.{Mail, post, posts-boxes, posts-length, posts-mail, mail-trans, mail-as}
 use Rattle.rules.specs.Deliver.{each}
 use Rattle.rules.specs.Handles.{isOpen}
 use Rattle.rules.specs.Owed.{owedRoom, roomTaken}
 use Rattle.rules.specs.State.{State}
-use Rattle.rules.proofs.Aside.{Aside, aside-owed}
-use Rattle.rules.proofs.Mail.{Mail, post, posts-boxes, posts-length, posts-mail, mail-trans, mail-as}
 use Rattle.transmission.specs.declared.Transmission.{Transmission}
 use Rattle.wait.specs.Wait.{ownedBy}
 use Rattle.wait.specs.declared.Wait.{Wait}
-use Rattle.guarantee.proofs.Invariant.{Inv}
 
 -- these entries, and copies, come to handle h from s to t: it has room for what it is still owed, and a closed one has and is owed nothing
 pub record Comes (h : ℕ) (s t : State) (es : List Entry) : Type 0 where

@@ -9,26 +9,26 @@ use native.Mathlib.Omega.{arith}
 use lib.Dec.{ltb}
 use lib.ListN.{length}
 use Rattle.constants.specs.Kernel.{CEC-TX-STATUS-OK}
+use Rattle.entry.specs.Entry.{noCounts, result, timedOut}
+use Rattle.entry.specs.declared.Entry.{Entry}
+use Rattle.guarantee.proofs.Carried.{sentAs, waitingAs}
+use Rattle.guarantee.proofs.Comes.{Comes, entriesTo, comes-aside}
+use Rattle.guarantee.proofs.Invariant.{Inv, spent}
+use Rattle.guarantee.specs.Seen.{isClose, isBusResult, milliseconds}
 use Rattle.lists.specs.Last.{last, last-more}
 use Rattle.lists.specs.Sums.{sum}
 use Rattle.lists.specs.Tests.{bit}
-use Rattle.entry.specs.Entry.{noCounts, result, timedOut}
-use Rattle.entry.specs.declared.Entry.{Entry}
+use Rattle.rules.proofs.Aside.{Owned, Aside, aside-pending, aside-sum, core-weightless}
+use Rattle.rules.proofs.Entries.{Shows, result-shows, timedOut-shows}
 use Rattle.rules.specs.BusResult.{waitFor}
 use Rattle.rules.specs.Call.{Call}
 use Rattle.rules.specs.Handles.{isOpen, hasBit}
 use Rattle.rules.specs.Owed.{pending}
 use Rattle.rules.specs.State.{State}
-use Rattle.rules.proofs.Aside.{Owned, Aside, aside-pending, aside-sum, core-weightless}
-use Rattle.rules.proofs.Entries.{Shows, result-shows, timedOut-shows}
 use Rattle.transmission.specs.Transmission.{ownerless}
 use Rattle.transmission.specs.declared.Transmission.{Transmission}
 use Rattle.wait.specs.Wait.{reduced}
 use Rattle.wait.specs.declared.Wait.{Wait}
-use Rattle.guarantee.specs.Seen.{isClose, isBusResult, milliseconds}
-use Rattle.guarantee.proofs.Carried.{sentAs, waitingAs}
-use Rattle.guarantee.proofs.Comes.{Comes, entriesTo, comes-aside}
-use Rattle.guarantee.proofs.Invariant.{Inv, spent}
 
 -- a weight of waits that does not look at the time left
 abbrev pub Timeless : (Wait → ℕ) → Type 0

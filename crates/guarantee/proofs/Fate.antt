@@ -8,18 +8,7 @@ use mathlib.Core.Path.{_≡_, ap, ap₂, _∙_, sym}
 use native.Mathlib.Omega.{arith}
 use lib.Dec.{eqb, ltb}
 use borrow.Author.Tests.{ltb-true, ltb-false, eqb-true, eqb-false}
-use Rattle.lists.specs.Spread.{upto-one}
-use Rattle.lists.specs.Sums.{sum-append, sum-le, count}
-use Rattle.lists.specs.Tests.{bit, split, none-bit}
 use Rattle.entry.specs.declared.Entry.{Entry}
-use Rattle.rules.specs.Call.{Call, Request}
-use Rattle.rules.specs.Cases.{after}
-use Rattle.rules.specs.Deliver.{handleNumbers}
-use Rattle.rules.specs.State.{State}
-use Rattle.rules.specs.Step.{Step, step, stepOf, run}
-use Rattle.rules.specs.Transmit.{wantsReply, timeoutOf}
-use Rattle.guarantee.specs.Claim.{Fate}
-use Rattle.guarantee.specs.Seen.{came, closes, gives, givesTo, doneBy, isClose, milliseconds, isResult, isReplyEntry, isOkResult, cameTo, cameToAny, results, okResults, replies, busResults, closings, elapsed, own}
 use Rattle.guarantee.proofs.Began.{Began}
 use Rattle.guarantee.proofs.Brought.{brought, ok-less}
 use Rattle.guarantee.proofs.Carried.{sending, waiting, sending-less, waiting-less}
@@ -30,6 +19,16 @@ use Rattle.guarantee.proofs.Keeps.{keeps}
 use Rattle.guarantee.proofs.Parts.{parted, own-parted, own-after}
 use Rattle.guarantee.proofs.Reached.{kept}
 use Rattle.guarantee.proofs.Totals.{nobody, own-results, all-results, placed-most, own-replies, all-replies, closed-results, closed-replies, kept-results, kept-alike, kept-waits, kept-oks}
+use Rattle.guarantee.specs.Claim.{Fate}
+use Rattle.guarantee.specs.Seen.{came, closes, gives, givesTo, doneBy, isClose, milliseconds, isResult, isReplyEntry, isOkResult, cameTo, cameToAny, results, okResults, replies, busResults, closings, elapsed, own}
+use Rattle.lists.specs.Spread.{upto-one}
+use Rattle.lists.specs.Sums.{sum-append, sum-le, count}
+use Rattle.lists.specs.Tests.{bit, split, none-bit}
+use Rattle.rules.specs.Call.{Call, Request}
+use Rattle.rules.specs.Deliver.{handleNumbers}
+use Rattle.rules.specs.State.{State}
+use Rattle.rules.specs.Step.{after, Step, step, stepOf, run}
+use Rattle.rules.specs.Transmit.{wantsReply, timeoutOf}
 
 -- what comes to all handles is what comes to one, if nothing comes to the others
 one-handle : (p : Entry → Bool) (h : ℕ) (xs : List Step) → h < 8 → ((g : ℕ) → g < 8 → g ≢ h → cameTo p g xs ≡ 0) → cameToAny p xs ≡ cameTo p h xs

@@ -5,6 +5,11 @@ use mathlib.Core.Bool.{Bool, true, false, not}
 use mathlib.Core.Path.{_≡_, ap}
 use native.Mathlib.Omega.{arith}
 use lib.Dec.{ltb}
+use Rattle.guarantee.proofs.Brought.{brought, silent-brought}
+use Rattle.guarantee.proofs.Carried.{sentAs, awaitedAs, always, sendingAs, waitingAs, sending, waiting, placed, unused}
+use Rattle.guarantee.proofs.Cases.{Silent}
+use Rattle.guarantee.proofs.Invariant.{Inv, next-unused}
+use Rattle.guarantee.specs.Seen.{givesTo, doneBy, isClose, isBusResult, milliseconds, isResult, isReplyEntry, isOkResult}
 use Rattle.lists.specs.Sums.{sum}
 use Rattle.lists.specs.Tests.{bit, clash}
 use Rattle.rules.specs.Call.{Call, Outcome}
@@ -13,11 +18,6 @@ use Rattle.rules.specs.Owed.{pending}
 use Rattle.rules.specs.State.{State}
 use Rattle.transmission.specs.declared.Transmission.{Transmission}
 use Rattle.wait.specs.declared.Wait.{Wait}
-use Rattle.guarantee.specs.Seen.{givesTo, doneBy, isClose, isBusResult, milliseconds, isResult, isReplyEntry, isOkResult}
-use Rattle.guarantee.proofs.Brought.{brought, silent-brought}
-use Rattle.guarantee.proofs.Carried.{sentAs, awaitedAs, always, sendingAs, waitingAs, sending, waiting, placed, unused}
-use Rattle.guarantee.proofs.Cases.{Silent}
-use Rattle.guarantee.proofs.Invariant.{Inv, next-unused}
 
 -- a transmission that wants a reply, and one that does not
 abbrev pub wanting : Transmission → Bool

@@ -9,6 +9,16 @@ use native.Mathlib.Omega.{arith}
 use lib.Dec.{eqb}
 use borrow.Author.Tests.{eqb-true}
 use Rattle.constants.specs.Kernel.{CEC-TX-STATUS-OK}
+use Rattle.guarantee.proofs.Brought.{silent-brought, ended-results, ended-replies, ended-oks}
+use Rattle.guarantee.proofs.ByCases.{by-cases}
+use Rattle.guarantee.proofs.Carried.{sentAs, awaitedAs, always, sendingAs, waitingAs, placed, sent-owned}
+use Rattle.guarantee.proofs.Cases.{Cases, Silent, enqueued}
+use Rattle.guarantee.proofs.ClosedFlow.{close-flow}
+use Rattle.guarantee.proofs.Ends.{Ends, begins}
+use Rattle.guarantee.proofs.Flow.{Flow, wanting, unwanting, longer, next-given, still-flow}
+use Rattle.guarantee.proofs.Invariant.{Inv}
+use Rattle.guarantee.proofs.QueuedKept.{pending-queued, sum-queued}
+use Rattle.guarantee.specs.Seen.{isResult, isReplyEntry, isOkResult}
 use Rattle.lists.specs.Last.{last, last-more}
 use Rattle.lists.specs.Sums.{sum, sum-le, sum-plus}
 use Rattle.lists.specs.Tests.{split, clash, and-false}
@@ -20,16 +30,6 @@ use Rattle.rules.specs.State.{State}
 use Rattle.rules.specs.Step.{step}
 use Rattle.rules.specs.Transmit.{transmissionOf}
 use Rattle.transmission.specs.declared.Transmission.{Transmission}
-use Rattle.guarantee.specs.Seen.{isResult, isReplyEntry, isOkResult}
-use Rattle.guarantee.proofs.Brought.{silent-brought, ended-results, ended-replies, ended-oks}
-use Rattle.guarantee.proofs.ByCases.{by-cases}
-use Rattle.guarantee.proofs.Carried.{sentAs, awaitedAs, always, sendingAs, waitingAs, placed, sent-owned}
-use Rattle.guarantee.proofs.Cases.{Cases, Silent, enqueued}
-use Rattle.guarantee.proofs.ClosedFlow.{close-flow}
-use Rattle.guarantee.proofs.Ends.{Ends, begins}
-use Rattle.guarantee.proofs.Flow.{Flow, wanting, unwanting, longer, next-given, still-flow}
-use Rattle.guarantee.proofs.Invariant.{Inv}
-use Rattle.guarantee.proofs.QueuedKept.{pending-queued, sum-queued}
 
 module _ (h n : ℕ) (l : h < 8) (d : n ≢ 0) (s : State) (r : Inv s) where
   -- ---- transmit: one that is given another number is of another number

@@ -5,10 +5,10 @@ use mathlib.Core.Bool.{true}
 use mathlib.Core.List.{List, [], _∷_, _++_}
 use mathlib.Core.Path.{_≡_, refl}
 use lib.ListN.{drop, replicate, length}
-use Rattle.message.specs.Message.{message}
-use Rattle.message.specs.Reply.{isReply}
 use Rattle.entry.specs.Entry.{noCounts}
 use Rattle.guarantee.specs.Seen.{came, gave, results, okResults, replies, busResults, closings, elapsed, own, sinceOpen, all}
+use Rattle.message.specs.Message.{message}
+use Rattle.message.specs.Reply.{isReply}
 use Rattle.rules.specs.BusResult.{doBusResult, isFinal, keptCounts}
 use Rattle.rules.specs.BusStart.{doBusStart}
 use Rattle.rules.specs.Call.{Call, Request, unless, check, callOpen, callClose, callTransmit, callReceive, callBusStart, callBusResult, callMessage, callTime, callConfigure, callUnconfigure}

@@ -8,16 +8,16 @@ use native.Mathlib.Omega.{arith}
 use lib.Dec.{eqb, ltb, leb}
 use lib.ListN.{length, length-append, List·getD-eq-default}
 use borrow.Author.Tests.{ltb-true, ltb-false, leb-true, le-ltb}
+use Rattle.handle.specs.declared.Handle.{Handle}
 use Rattle.lists.specs.Pigeonhole.{upto}
 use Rattle.lists.specs.Spread.{spread}
 use Rattle.lists.specs.Sums.{sum, length-sum, sum-le, sum-same, count}
 use Rattle.lists.specs.Tests.{bit, split, clash, cond-bit}
-use Rattle.handle.specs.declared.Handle.{Handle}
+use Rattle.rules.proofs.Numbers.{carriedBy, next-free, next-pos, free-carried}
 use Rattle.rules.specs.Handles.{isOpen}
 use Rattle.rules.specs.Number.{nextNumber}
 use Rattle.rules.specs.Owed.{pending, repliesWanted, wantedReplies, roomTaken}
 use Rattle.rules.specs.State.{State, closedHandle}
-use Rattle.rules.proofs.Numbers.{carriedBy, next-free, next-pos, free-carried}
 use Rattle.transmission.specs.Transmission.{replyFor}
 use Rattle.transmission.specs.declared.Transmission.{Transmission}
 use Rattle.wait.specs.Wait.{ownedBy}

@@ -8,25 +8,7 @@ use native.Mathlib.Omega.{arith}
 use lib.Dec.{eqb, ltb}
 use lib.ListN.{length, set, length-set}
 use Rattle.constants.specs.Kernel.{CEC-TX-STATUS-OK}
-use Rattle.lists.specs.Elements.{set-rel}
-use Rattle.lists.specs.Sums.{sum, sum-le}
-use Rattle.lists.specs.Tests.{bit, split, both, clash}
 use Rattle.entry.specs.declared.Entry.{Entry}
-use Rattle.handle.specs.declared.Handle.{Handle}
-use Rattle.inbox.specs.Inboxes.{inboxOf}
-use Rattle.rules.specs.Call.{Call, Answer}
-use Rattle.rules.specs.Handles.{isOpen, hasBit}
-use Rattle.rules.specs.Open.{openedHandle}
-use Rattle.rules.specs.Owed.{pending, owedRoom, repliesWanted}
-use Rattle.rules.specs.State.{State, closedHandle, withHandles, withInboxes, withQueue, withWire}
-use Rattle.rules.specs.Step.{step}
-use Rattle.rules.proofs.Numbers.{carriedBy}
-use Rattle.settings.specs.declared.Settings.{Settings}
-use Rattle.transmission.specs.Transmission.{replyFor, numbered}
-use Rattle.transmission.specs.declared.Transmission.{Transmission}
-use Rattle.wait.specs.Wait.{ownedBy}
-use Rattle.wait.specs.Wait
-use Rattle.wait.specs.declared.Wait.{Wait}
 use Rattle.guarantee.proofs.BusResultEnds.{wait-proper}
 use Rattle.guarantee.proofs.ByCases.{by-cases}
 use Rattle.guarantee.proofs.Cases.{Cases, Quiet, calm}
@@ -34,6 +16,24 @@ use Rattle.guarantee.proofs.ClosedKept.{closed-kept, reply-owned, numbe
 use Rattle.guarantee.proofs.Ends.{Ends, begins}
 use Rattle.guarantee.proofs.Invariant.{Inv, isProper, improper, improperWait, spent}
 use Rattle.guarantee.proofs.QueuedKept.{queued-kept}
+use Rattle.handle.specs.declared.Handle.{Handle}
+use Rattle.inbox.specs.Inboxes.{inboxOf}
+use Rattle.lists.specs.Elements.{set-rel}
+use Rattle.lists.specs.Sums.{sum, sum-le}
+use Rattle.lists.specs.Tests.{bit, split, both, clash}
+use Rattle.rules.proofs.Numbers.{carriedBy}
+use Rattle.rules.specs.Call.{Call, Answer}
+use Rattle.rules.specs.Handles.{isOpen, hasBit}
+use Rattle.rules.specs.Open.{openedHandle}
+use Rattle.rules.specs.Owed.{pending, owedRoom, repliesWanted}
+use Rattle.rules.specs.State.{State, closedHandle, withHandles, withInboxes, withQueue, withWire}
+use Rattle.rules.specs.Step.{step}
+use Rattle.settings.specs.declared.Settings.{Settings}
+use Rattle.transmission.specs.Transmission.{replyFor, numbered}
+use Rattle.transmission.specs.declared.Transmission.{Transmission}
+use Rattle.wait.specs.Wait
+use Rattle.wait.specs.Wait.{ownedBy}
+use Rattle.wait.specs.declared.Wait.{Wait}
 
 -- what is pending and the waits are the same, no inbox has more, and no handle is closed
 same-kept : (s t : State) → Inv s → length (t .handles) ≡ 8 → length (t .inboxes) ≡ 8 → length (t .queue) ≤ 18 → length (t .wire) ≤ 1 → pending t ≡ pending s → t .waits ≡ s .waits

@@ -9,14 +9,20 @@ use lib.Dec.{eqb, ltb}
 use lib.ListN.{length, getD, length-set}
 use borrow.Author.Tests.{ltb-true}
 use Rattle.constants.specs.Kernel.{CEC-MSG-FEATURE-ABORT}
+use Rattle.entry.specs.Entry.{noCounts, result, messageCopy}
+use Rattle.entry.specs.declared.Entry.{Entry}
+use Rattle.guarantee.proofs.Carried.{awaitedAs, waitingAs}
+use Rattle.guarantee.proofs.Comes.{comes, comes-then}
+use Rattle.guarantee.proofs.Ends.{Ends, Replies, shown-reply, aside-ends}
+use Rattle.guarantee.proofs.Invariant.{Inv, spent}
 use Rattle.lists.specs.Last.{last-more}
 use Rattle.lists.specs.Places.{first, without, sum-without}
 use Rattle.lists.specs.Sums.{count}
 use Rattle.lists.specs.Tests.{bit, split}
 use Rattle.message.specs.Message.{opcode}
 use Rattle.message.specs.declared.Message.{Message}
-use Rattle.entry.specs.Entry.{noCounts, result, messageCopy}
-use Rattle.entry.specs.declared.Entry.{Entry}
+use Rattle.rules.proofs.Aside.{Aside, aside-trans, aside-pending, aside-sum, core-weightless, room-owned, copies-aside, notes-aside, answers-aside, followed-aside, refusedMessage-aside}
+use Rattle.rules.proofs.Entries.{result-shows, replyEntry-shows, messageCopy-shows}
 use Rattle.rules.specs.Call.{Call, callMessage}
 use Rattle.rules.specs.Core.{answers, notes}
 use Rattle.rules.specs.Deliver.{deliver, copies}
@@ -24,17 +30,11 @@ use Rattle.rules.specs.Handles.{inRole}
 use Rattle.rules.specs.Incoming.{heard, handled, stops, replied, replyEntry, followed, refusedMessage, monitors}
 use Rattle.rules.specs.Owed.{pending, roomOwed, owedRoom}
 use Rattle.rules.specs.State.{State, withWaits}
-use Rattle.rules.proofs.Aside.{Aside, aside-trans, aside-pending, aside-sum, core-weightless, room-owned, copies-aside, notes-aside, answers-aside, followed-aside, refusedMessage-aside}
-use Rattle.rules.proofs.Entries.{result-shows, replyEntry-shows, messageCopy-shows}
 use Rattle.transmission.specs.Transmission.{ownerless, roomFor}
 use Rattle.transmission.specs.declared.Transmission.{Transmission}
 use Rattle.wait.specs.Wait.{noWait, answeredBy, ownedBy}
 use Rattle.wait.specs.declared.Wait.{Wait}
 use Rattle.waits.specs.Waits.{Taken, takenAt, matchTaken}
-use Rattle.guarantee.proofs.Carried.{awaitedAs, waitingAs}
-use Rattle.guarantee.proofs.Comes.{comes, comes-then}
-use Rattle.guarantee.proofs.Ends.{Ends, Replies, shown-reply, aside-ends}
-use Rattle.guarantee.proofs.Invariant.{Inv, spent}
 
 -- copies and core work after what a call ends
 pub ends-then : (s t u : State) (c : Call) → Ends s c t → Aside t u → Ends s c u

@@ -5,14 +5,13 @@ use mathlib.Core.List.{List, [], _∷_, _++_}
 use mathlib.Core.Path.{_≡_, refl, ap, ap₂, sym}
 use native.Mathlib.Omega.{arith}
 use lib.ListN.{length}
+use Rattle.guarantee.specs.Seen.{gives, givesTo, own}
 use Rattle.lists.specs.Elements.{empty-not}
 use Rattle.lists.specs.Sums.{count}
 use Rattle.lists.specs.Tests.{bit, split}
 use Rattle.rules.specs.Call.{Call}
-use Rattle.rules.specs.Cases.{after}
 use Rattle.rules.specs.State.{State}
-use Rattle.rules.specs.Step.{Step, step, stepOf, run}
-use Rattle.guarantee.specs.Seen.{gives, givesTo, own}
+use Rattle.rules.specs.Step.{after, Step, step, stepOf, run}
 
 -- the calls before a step, its own, and those after it
 pub record Parted (s : State) (past : List Step) (x : Step) (rest : List Step) : Type 0 where

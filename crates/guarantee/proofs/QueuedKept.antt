@@ -9,20 +9,19 @@ use native.Mathlib.Omega.{arith}
 use lib.Dec.{eqb}
 use lib.ListN.{length, length-append}
 use borrow.Author.Tests.{eqb-true, ne-eqb, lt-ltb}
+use Rattle.guarantee.proofs.Cases.{enqueued}
+use Rattle.guarantee.proofs.Invariant.{Inv, improper, next-unused, next-some}
 use Rattle.lists.specs.Sums.{sum, sum-append}
 use Rattle.lists.specs.Tests.{bit, split, clash}
+use Rattle.rules.proofs.Numbers.{carriedBy}
 use Rattle.rules.specs.Call.{Request}
 use Rattle.rules.specs.Handles.{isOpen}
 use Rattle.rules.specs.Number.{nextNumber}
 use Rattle.rules.specs.Owed.{pending, roomOwed, repliesWanted, wantedReplies, roomTaken}
 use Rattle.rules.specs.State.{State}
 use Rattle.rules.specs.Transmit.{transmissionOf, wantsReply, timeoutOf}
-use Rattle.rules.proofs.Numbers.{carriedBy}
 use Rattle.transmission.specs.Transmission.{roomFor, replyFor, numbered}
 use Rattle.transmission.specs.declared.Transmission.{Transmission}
-use Rattle.wait.specs.Wait
-use Rattle.guarantee.proofs.Cases.{enqueued}
-use Rattle.guarantee.proofs.Invariant.{Inv, improper, next-unused, next-some}
 
 -- it is pending after all others
 pub pending-queued : (s : State) (g : ℕ) (x : Request) → pending (enqueued s g x) ≡ pending s ++ (transmissionOf (nextNumber s) g x ∷ [])

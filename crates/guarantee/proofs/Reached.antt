@@ -6,19 +6,18 @@ use mathlib.Core.List.{List, [], _∷_}
 use mathlib.Core.Path.{_≡_, refl, ap}
 use native.Mathlib.Omega.{arith}
 use lib.ListN.{length}
-use Rattle.lists.specs.Elements.{getD-replicated}
 use Rattle.entry.specs.declared.Entry.{Entry}
+use Rattle.guarantee.proofs.Invariant.{Inv}
+use Rattle.guarantee.proofs.Keeps.{keeps}
 use Rattle.handle.specs.declared.Handle.{Handle}
 use Rattle.inbox.specs.Inboxes.{inboxOf}
+use Rattle.lists.specs.Elements.{getD-replicated}
+use Rattle.rules.proofs.Numbers.{carriedBy}
 use Rattle.rules.specs.Call.{Call}
-use Rattle.rules.specs.Cases.{after}
 use Rattle.rules.specs.Handles.{isOpen}
 use Rattle.rules.specs.Owed.{roomOwed, repliesWanted}
 use Rattle.rules.specs.State.{State, Capabilities, fresh, closedHandle}
-use Rattle.rules.specs.Step.{step}
-use Rattle.rules.proofs.Numbers.{carriedBy}
-use Rattle.guarantee.proofs.Invariant.{Inv}
-use Rattle.guarantee.proofs.Keeps.{keeps}
+use Rattle.rules.specs.Step.{after, step}
 
 -- all handles are closed, and all inboxes empty
 pub fresh-closed : (c : Capabilities) (h : ℕ) → isOpen (fresh c) h ≡ false

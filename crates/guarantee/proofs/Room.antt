@@ -7,33 +7,33 @@ use native.Mathlib.Omega.{arith}
 use lib.Dec.{eqb, ltb}
 use lib.ListN.{length}
 use borrow.Author.Tests.{ltb-true}
-use Rattle.lists.specs.Sums.{sum-one-of, sum-le, count}
-use Rattle.lists.specs.Tests.{bit, split, eqb-refl}
+use Rattle.constants.specs.Kernel.{CEC-TX-STATUS-ABORTED}
 use Rattle.entry.specs.Entry.{noCounts, result, resultCopy, timedOut, aborted, messageCopy}
 use Rattle.entry.specs.declared.Entry.{Entry}
-use Rattle.inbox.specs.Inboxes.{inboxOf}
-use Rattle.rules.specs.Cases.{after}
-use Rattle.rules.specs.Deliver.{each}
-use Rattle.rules.specs.Handles.{isMonitor}
-use Rattle.rules.specs.Incoming.{monitors}
-use Rattle.rules.specs.Owed.{pending, roomOwed, owedRoom}
-use Rattle.rules.specs.State.{State, fresh, withWaits}
-use Rattle.rules.specs.Time.{overdue, remaining, timeOut}
-use Rattle.rules.specs.Unconfigure.{abortTransmit, abortWait, unset}
-use Rattle.constants.specs.Kernel.{CEC-TX-STATUS-ABORTED}
-use Rattle.rules.proofs.Aside.{Aside, copies-aside, aside-owed}
-use Rattle.rules.proofs.Entries.{resultCopy-shows, messageCopy-shows}
-use Rattle.rules.proofs.Mail.{post, posts-boxes, posts-length}
-use Rattle.transmission.specs.Transmission.{roomFor}
-use Rattle.transmission.specs.declared.Transmission.{Transmission}
-use Rattle.wait.specs.Wait.{ownedBy}
-use Rattle.wait.specs.declared.Wait.{Wait}
-use Rattle.guarantee.specs.Room.{HasRoom, Room, AlwaysRoom}
 use Rattle.guarantee.proofs.BusResultEnds.{wait-fits}
 use Rattle.guarantee.proofs.Invariant.{Inv, improperWait}
 use Rattle.guarantee.proofs.Reached.{reached}
 use Rattle.guarantee.proofs.TimeEnds.{sum-time}
 use Rattle.guarantee.proofs.UnconfigureEnds.{owed-each}
+use Rattle.guarantee.specs.Room.{HasRoom, Room, AlwaysRoom}
+use Rattle.inbox.specs.Inboxes.{inboxOf}
+use Rattle.lists.specs.Sums.{sum-one-of, sum-le, count}
+use Rattle.lists.specs.Tests.{bit, split, eqb-refl}
+use Rattle.rules.proofs.Aside.{Aside, copies-aside, aside-owed}
+use Rattle.rules.proofs.Entries.{resultCopy-shows, messageCopy-shows}
+use Rattle.rules.proofs.Mail.{post, posts-boxes, posts-length}
+use Rattle.rules.specs.Deliver.{each}
+use Rattle.rules.specs.Handles.{isMonitor}
+use Rattle.rules.specs.Incoming.{monitors}
+use Rattle.rules.specs.Owed.{pending, roomOwed, owedRoom}
+use Rattle.rules.specs.State.{State, fresh, withWaits}
+use Rattle.rules.specs.Step.{after}
+use Rattle.rules.specs.Time.{overdue, remaining, timeOut}
+use Rattle.rules.specs.Unconfigure.{abortTransmit, abortWait, unset}
+use Rattle.transmission.specs.Transmission.{roomFor}
+use Rattle.transmission.specs.declared.Transmission.{Transmission}
+use Rattle.wait.specs.Wait.{ownedBy}
+use Rattle.wait.specs.declared.Wait.{Wait}
 
 -- entries to several handles: where there is room for all those to one of them, each of these finds room
 each-room : {A : Type 0} (to : A → ℕ) (entry : A → Entry) (s : State) (xs past : List A) (x : A) (rest : List A) → xs ≡ past ++ x ∷ rest → to x < length (s .inboxes)

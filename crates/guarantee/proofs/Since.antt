@@ -10,26 +10,25 @@ use lib.Dec.{eqb}
 use lib.ListN.{set}
 use lib.Seq.{getD-set-same, getD-set-other}
 use borrow.Author.Tests.{eqb-true, eqb-false}
-use Rattle.lists.specs.Elements.{empty-list}
-use Rattle.lists.specs.Sums.{any}
-use Rattle.lists.specs.Tests.{split, clash, neither}
 use Rattle.entry.specs.declared.Entry.{Entry}
-use Rattle.handle.specs.declared.Handle.{Handle}
-use Rattle.inbox.specs.Inboxes.{inboxOf}
-use Rattle.rules.specs.Call.{Call, Outcome, finish, done, opened, received, callOpen, callClose, callReceive}
-use Rattle.rules.specs.Cases.{after}
-use Rattle.rules.specs.Close.{closed}
-use Rattle.rules.specs.Handles.{isOpen}
-use Rattle.rules.specs.Open.{openedHandle}
-use Rattle.rules.specs.State.{State, closedHandle, withHandles, withInboxes}
-use Rattle.rules.specs.Step.{step, stepOf, run}
-use Rattle.guarantee.specs.Seen.{came, gave, opens, opensTo, doneBy, isClose, sinceOpen, all}
 use Rattle.guarantee.proofs.Brought.{ended-came}
 use Rattle.guarantee.proofs.ByCases.{by-cases}
 use Rattle.guarantee.proofs.Cases.{Cases, Silent, stepFrom}
 use Rattle.guarantee.proofs.Ends.{Ends}
 use Rattle.guarantee.proofs.Invariant.{Inv}
 use Rattle.guarantee.proofs.Keeps.{keeps}
+use Rattle.guarantee.specs.Seen.{came, gave, opens, opensTo, doneBy, isClose, sinceOpen, all}
+use Rattle.handle.specs.declared.Handle.{Handle}
+use Rattle.inbox.specs.Inboxes.{inboxOf}
+use Rattle.lists.specs.Elements.{empty-list}
+use Rattle.lists.specs.Sums.{any}
+use Rattle.lists.specs.Tests.{split, clash, neither}
+use Rattle.rules.specs.Call.{Call, Outcome, finish, done, opened, received, callOpen, callClose, callReceive}
+use Rattle.rules.specs.Close.{closed}
+use Rattle.rules.specs.Handles.{isOpen}
+use Rattle.rules.specs.Open.{openedHandle}
+use Rattle.rules.specs.State.{State, closedHandle, withHandles, withInboxes}
+use Rattle.rules.specs.Step.{after, step, stepOf, run}
 
 -- one call and handle h
 pub record InOrder (h : ℕ) (s : State) (c : Call) (o : Outcome) : Type 0 where

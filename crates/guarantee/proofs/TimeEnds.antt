@@ -8,25 +8,25 @@ use native.Mathlib.Omega.{arith}
 use lib.Dec.{leb, ltb}
 use lib.ListN.{length}
 use borrow.Author.Tests.{ltb-false, leb-false, ne-eqb, le-ltb}
+use Rattle.entry.specs.Entry.{noCounts, result, timedOut}
+use Rattle.entry.specs.declared.Entry.{Entry}
+use Rattle.guarantee.proofs.Carried.{isOf, awaitedAs, waitingAs}
+use Rattle.guarantee.proofs.Comes.{comes}
+use Rattle.guarantee.proofs.Ends.{Ends, Timeless, shown-reply}
+use Rattle.guarantee.proofs.Invariant.{Inv, spent}
 use Rattle.lists.specs.Order.{sum-sort}
 use Rattle.lists.specs.Sums.{sum, sum-map, sum-keep, sum-split, sum-same, sum-zero, sum-le, count, keep}
 use Rattle.lists.specs.Tests.{bit, split}
-use Rattle.entry.specs.Entry.{noCounts, result, timedOut}
-use Rattle.entry.specs.declared.Entry.{Entry}
+use Rattle.rules.proofs.Aside.{aside-refl}
+use Rattle.rules.proofs.Entries.{result-shows, timedOut-shows}
+use Rattle.rules.proofs.Mail.{posts-only, posts-boxes}
 use Rattle.rules.specs.Call.{callTime}
 use Rattle.rules.specs.Deliver.{each}
 use Rattle.rules.specs.Owed.{roomOwed, owedRoom}
 use Rattle.rules.specs.State.{State, withInboxes, withWaits}
 use Rattle.rules.specs.Time.{overdue, remaining, timeOut}
-use Rattle.rules.proofs.Aside.{aside-refl}
-use Rattle.rules.proofs.Entries.{result-shows, timedOut-shows}
-use Rattle.rules.proofs.Mail.{posts-only, posts-boxes}
 use Rattle.wait.specs.Wait.{leftOf, reduced, ownedBy}
 use Rattle.wait.specs.declared.Wait.{Wait}
-use Rattle.guarantee.proofs.Carried.{isOf, awaitedAs, waitingAs}
-use Rattle.guarantee.proofs.Comes.{comes}
-use Rattle.guarantee.proofs.Ends.{Ends, Timeless, shown-reply}
-use Rattle.guarantee.proofs.Invariant.{Inv, spent}
 
 module _ (ms : ℕ) where
   -- a wait ends or goes on

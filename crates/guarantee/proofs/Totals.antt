@@ -10,25 +10,24 @@ use lib.Dec.{eqb}
 use lib.ListN.{length, List·getD-eq-default}
 use lib.Seq.{drop-nil}
 use borrow.Author.Tests.{eqb-false, lt-ltb}
-use Rattle.lists.specs.Last.{last-none, last-le}
-use Rattle.lists.specs.Sums.{sum-le, sum-plus, count}
-use Rattle.lists.specs.Tests.{split, none-bit}
 use Rattle.entry.specs.declared.Entry.{Entry}
-use Rattle.inbox.specs.Inboxes.{inboxOf}
-use Rattle.rules.specs.Call.{Call}
-use Rattle.rules.specs.Cases.{after}
-use Rattle.rules.specs.Owed.{pending}
-use Rattle.rules.specs.State.{State}
-use Rattle.rules.specs.Step.{Step, step, stepOf, run}
-use Rattle.transmission.specs.declared.Transmission.{Transmission}
-use Rattle.wait.specs.declared.Wait.{Wait}
-use Rattle.guarantee.specs.Seen.{came, gave, opens, closes, gives, givesTo, doneBy, isClose, isResult, isReplyEntry, isOkResult, cameTo, busResults, closings, elapsed, own, milliseconds}
 use Rattle.guarantee.proofs.Brought.{brought, ok-less}
 use Rattle.guarantee.proofs.Carried.{isOf, sentAs, awaitedAs, always, sendingAs, waitingAs, sending, waiting, placed, sent-once, sending-less}
 use Rattle.guarantee.proofs.Flow.{wanting, unwanting, longer, later}
 use Rattle.guarantee.proofs.Flows.{flow}
 use Rattle.guarantee.proofs.Invariant.{Inv, spent, few-pending}
 use Rattle.guarantee.proofs.Keeps.{keeps}
+use Rattle.guarantee.specs.Seen.{came, gave, opens, closes, gives, givesTo, doneBy, isClose, isResult, isReplyEntry, isOkResult, cameTo, busResults, closings, elapsed, own, milliseconds}
+use Rattle.inbox.specs.Inboxes.{inboxOf}
+use Rattle.lists.specs.Last.{last-none, last-le}
+use Rattle.lists.specs.Sums.{sum-le, sum-plus, count}
+use Rattle.lists.specs.Tests.{split, none-bit}
+use Rattle.rules.specs.Call.{Call}
+use Rattle.rules.specs.Owed.{pending}
+use Rattle.rules.specs.State.{State}
+use Rattle.rules.specs.Step.{after, Step, step, stepOf, run}
+use Rattle.transmission.specs.declared.Transmission.{Transmission}
+use Rattle.wait.specs.declared.Wait.{Wait}
 
 -- nothing comes to a number over 7
 nobody-came : (g : ℕ) (x : Step) → 8 ≤ g → length (x .after .inboxes) ≡ 8 → came g x ≡ []

@@ -7,26 +7,26 @@ use native.Mathlib.Omega.{arith}
 use lib.Dec.{eqb}
 use lib.ListN.{length}
 use Rattle.constants.specs.Kernel.{CEC-TX-STATUS-ABORTED}
-use Rattle.lists.specs.Sums.{sum-zero, sum-le, count}
-use Rattle.lists.specs.Tests.{bit, split}
 use Rattle.entry.specs.Entry.{noCounts, result, aborted}
 use Rattle.entry.specs.declared.Entry.{Entry}
+use Rattle.guarantee.proofs.Carried.{waitingAs}
+use Rattle.guarantee.proofs.Comes.{comes}
+use Rattle.guarantee.proofs.Ends.{Ends, begins, shown-reply}
+use Rattle.guarantee.proofs.Invariant.{Inv}
+use Rattle.lists.specs.Sums.{sum-zero, sum-le, count}
+use Rattle.lists.specs.Tests.{bit, split}
+use Rattle.rules.proofs.Aside.{aside-refl}
+use Rattle.rules.proofs.Entries.{result-shows, aborted-shows}
+use Rattle.rules.proofs.Mail.{posts-only, posts-boxes}
 use Rattle.rules.specs.Call.{callUnconfigure}
 use Rattle.rules.specs.Deliver.{each}
 use Rattle.rules.specs.Owed.{pending, roomOwed, owedRoom}
 use Rattle.rules.specs.State.{State, withInboxes}
 use Rattle.rules.specs.Unconfigure.{abortTransmit, abortWait, unset}
-use Rattle.rules.proofs.Aside.{aside-refl}
-use Rattle.rules.proofs.Entries.{result-shows, aborted-shows}
-use Rattle.rules.proofs.Mail.{posts-only, posts-boxes}
 use Rattle.transmission.specs.Transmission.{roomFor}
 use Rattle.transmission.specs.declared.Transmission.{Transmission}
 use Rattle.wait.specs.Wait.{ownedBy}
 use Rattle.wait.specs.declared.Wait.{Wait}
-use Rattle.guarantee.proofs.Carried.{waitingAs}
-use Rattle.guarantee.proofs.Comes.{comes}
-use Rattle.guarantee.proofs.Ends.{Ends, begins, shown-reply}
-use Rattle.guarantee.proofs.Invariant.{Inv}
 
 -- the entries of a result and of a wait's end
 abbrev resultOf : Transmission → Entry

@@ -5,9 +5,9 @@ use mathlib.Core.Bool.{true}
 use mathlib.Core.List.{List, [], _∷_, _++_}
 use mathlib.Core.Logic.{_≢_}
 use mathlib.Core.Path.{_≡_}
-use Rattle.lists.specs.Sums.{count}
 use Rattle.guarantee.specs.Seen.{came, gave, gives, closes, isResult, isReplyEntry, cameTo, results, okResults, replies, busResults, closings, elapsed, own, sinceOpen, all}
 use Rattle.inbox.specs.Inboxes.{inboxOf}
+use Rattle.lists.specs.Sums.{count}
 use Rattle.rules.specs.Call.{Call, Request, accepted, callTransmit}
 use Rattle.rules.specs.Handles.{isOpen}
 use Rattle.rules.specs.State.{Capabilities, fresh}

@@ -5,17 +5,17 @@ use mathlib.Core.Bool.{true}
 use mathlib.Core.List.{List, [], _∷_, _++_}
 use mathlib.Core.Path.{_≡_}
 use lib.ListN.{length}
-use Rattle.message.specs.declared.Message.{Message}
 use Rattle.entry.specs.Entry.{resultCopy, messageCopy}
 use Rattle.entry.specs.declared.Counts.{Counts}
 use Rattle.inbox.specs.Inboxes.{inboxOf}
+use Rattle.message.specs.declared.Message.{Message}
 use Rattle.rules.specs.Call.{Call}
-use Rattle.rules.specs.Cases.{after}
 use Rattle.rules.specs.Deliver.{copies, each}
 use Rattle.rules.specs.Handles.{inRole, isMonitor}
 use Rattle.rules.specs.Incoming.{monitors}
 use Rattle.rules.specs.Owed.{pending, roomTaken}
 use Rattle.rules.specs.State.{State, Capabilities, fresh, withWaits}
+use Rattle.rules.specs.Step.{after}
 use Rattle.rules.specs.Time.{overdue, remaining, timeOut}
 use Rattle.rules.specs.Unconfigure.{abortTransmit, abortWait, unset}
 use Rattle.transmission.specs.declared.Transmission.{Transmission}

@@ -6,9 +6,9 @@ use mathlib.Core.List.{List, [], _∷_, _++_}
 use lib.Dec.{eqb}
 use lib.ListN.{length, drop}
 use Rattle.constants.specs.Kernel.{CEC-TX-STATUS-OK}
-use Rattle.lists.specs.Sums.{sum, count, any}
 use Rattle.entry.specs.declared.Entry.{Entry}
 use Rattle.inbox.specs.Inboxes.{inboxOf}
+use Rattle.lists.specs.Sums.{sum, count, any}
 use Rattle.rules.specs.Call.{Call, Answer, refused, done, opened, accepted, received, started, listed, address, callOpen, callClose, callMode, callTransmit, callReceive, callBusStart, callBusResult, callMessage, callTime, callConfigure, callUnconfigure, callListing, callLookup}
 use Rattle.rules.specs.Deliver.{handleNumbers}
 use Rattle.rules.specs.Handles.{hasBit}

@@ -10,14 +10,14 @@ use lib.ListN.{length}
 use borrow.Author.Tests.{leb-false, ltb-false, not-false, lt-ltb}
 use Rattle.constants.specs.Kernel.{EBADF, ENOTTY, EPERM, EBUSY, EINVAL, ENONET}
 use Rattle.lists.specs.Tests.{bit, split, neither}
+use Rattle.rules.proofs.Checks.{passed, unless-answer}
+use Rattle.rules.proofs.Refused.{differ}
 use Rattle.rules.specs.Call.{Request, accepted}
 use Rattle.rules.specs.Handles.{isOpen}
 use Rattle.rules.specs.Number.{nextNumber}
 use Rattle.rules.specs.Owed.{wantedReplies, roomTaken}
 use Rattle.rules.specs.State.{State, withQueue, withLast}
 use Rattle.rules.specs.Transmit.{doTransmit, transmitRefusal, transmissionOf, wantsReply, isSelfPoll, isFull, polled, queued}
-use Rattle.rules.proofs.Checks.{passed, unless-answer}
-use Rattle.rules.proofs.Refused.{differ}
 
 -- a transmit of handle h that was queued under number n, from s to t
 pub record Queued (s : State) (h : ℕ) (r : Request) (n : ℕ) (t : State) : Type 0 where

@@ -8,16 +8,18 @@ use native.Mathlib.Omega.{arith}
 use lib.Dec.{eqb, ltb}
 use lib.ListN.{length, set, length-append, length-set}
 use borrow.Author.Tests.{eqb-true, eqb-false, ne-eqb, ltb-true}
+use Rattle.entry.specs.Entry.{messageCopy}
+use Rattle.entry.specs.declared.Entry.{Entry}
+use Rattle.handle.specs.declared.Handle.{Handle}
+use Rattle.inbox.specs.Inboxes.{inboxOf}
 use Rattle.lists.specs.Elements.{map-append, set-rel}
 use Rattle.lists.specs.Sums.{sum, sum-append, sum-map, sum-zero}
 use Rattle.lists.specs.Tests.{split, both, clash}
 use Rattle.lists.specs.Vector.{put}
 use Rattle.message.specs.Message.{message}
 use Rattle.message.specs.declared.Message.{Message}
-use Rattle.entry.specs.Entry.{messageCopy}
-use Rattle.entry.specs.declared.Entry.{Entry}
-use Rattle.handle.specs.declared.Handle.{Handle}
-use Rattle.inbox.specs.Inboxes.{inboxOf}
+use Rattle.rules.proofs.Entries.{messageCopy-shows}
+use Rattle.rules.proofs.Mail.{Mail, mail-same, mail-trans, copy-mail, arrives, delivered-inbox}
 use Rattle.rules.specs.Core.{sends, answers, notes, isAnswered, isNoted, coreAnswer}
 use Rattle.rules.specs.Deliver.{deliver, loses, copyTo, copies, each, handleNumbers}
 use Rattle.rules.specs.Handles.{handleAt, isOpen, inRole}
@@ -27,8 +29,6 @@ use Rattle.rules.specs.State.{State, closedHandle, withHandles, withQueu
 use Rattle.transmission.specs.Transmission.{noOwner, ownerless, roomFor}
 use Rattle.transmission.specs.declared.Transmission.{Transmission}
 use Rattle.waits.specs.Waits.{Taken}
-use Rattle.rules.proofs.Entries.{messageCopy-shows}
-use Rattle.rules.proofs.Mail.{Mail, mail-same, mail-trans, copy-mail, arrives, delivered-inbox}
 
 -- a weight of transmissions that counts none without owner
 abbrev pub Owned : (Transmission → ℕ) → Type 0

@@ -4,7 +4,7 @@ use Prim.Native.Nat.{ℕ}
 use mathlib.Core.List.{List, [], _∷_}
 use mathlib.Core.Path.{_≡_, refl}
 use Rattle.entry.specs.declared.Entry.{Entry}
-use Rattle.inbox.specs.Inboxes.{delivered, deliveredAll}
+use Rattle.inbox.specs.Inboxes.{deliveredAll}
 use Rattle.rules.specs.Deliver.{deliver, each}
 use Rattle.rules.specs.State.{State, withInboxes}
 

@@ -5,12 +5,12 @@ use mathlib.Core.Bool.{cond}
 use mathlib.Core.Path.{_≡_, refl}
 use lib.Dec.{eqb}
 use Rattle.constants.specs.Kernel.{CEC-MSG-FEATURE-ABORT}
-use Rattle.lists.specs.Tests.{split}
-use Rattle.message.specs.Message.{opcode}
-use Rattle.message.specs.declared.Message.{Message}
 use Rattle.entry.specs.Entry.{result, resultCopy, reply, featureAbortReply, timedOut, aborted, messageCopy}
 use Rattle.entry.specs.declared.Counts.{Counts}
 use Rattle.entry.specs.declared.Entry.{Entry}
+use Rattle.lists.specs.Tests.{split}
+use Rattle.message.specs.Message.{opcode}
+use Rattle.message.specs.declared.Message.{Message}
 use Rattle.rules.specs.Incoming.{replyEntry}
 
 pub record Shows (number tx rx : ℕ) (e : Entry) : Type 0 where

@@ -5,7 +5,6 @@ pub mod Refused
 pub mod Entries
 pub mod Accepted
 pub mod CoreSends
-pub mod Growth
 pub mod Deliveries
 pub mod Mail
 pub mod Aside

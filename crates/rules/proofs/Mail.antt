@@ -9,11 +9,11 @@ use lib.Dec.{eqb, ltb}
 use lib.ListN.{length, length-append, length-map, length-set}
 use lib.Seq.{getD-set-same, getD-set-other, set-out}
 use borrow.Author.Tests.{eqb-true, eqb-false, ltb-true, ltb-false, lt-ltb}
+use Rattle.entry.specs.declared.Entry.{Entry}
+use Rattle.inbox.specs.Inboxes.{inboxOf, delivered}
 use Rattle.lists.specs.Sums.{sum, sum-append, count, keep, length-keep-count}
 use Rattle.lists.specs.Tests.{split}
 use Rattle.lists.specs.Vector.{put}
-use Rattle.entry.specs.declared.Entry.{Entry}
-use Rattle.inbox.specs.Inboxes.{inboxOf, delivered}
 use Rattle.rules.specs.Deliver.{deliver, each}
 use Rattle.rules.specs.State.{State, withInboxes}
 

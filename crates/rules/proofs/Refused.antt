@@ -5,8 +5,9 @@ use mathlib.Core.List.{List}
 use mathlib.Core.Path.{_≡_}
 use native.Mathlib.Omega.{arith}
 use lib.Dec.{eqb}
-use Rattle.lists.specs.Tests.{split}
 use Rattle.handle.specs.declared.Row.{Row}
+use Rattle.lists.specs.Tests.{split}
+use Rattle.rules.proofs.Checks.{unless-same}
 use Rattle.rules.specs.BusResult.{doBusResult}
 use Rattle.rules.specs.BusStart.{doBusStart}
 use Rattle.rules.specs.Call.{Call, unless, refused, listed, callOpen, callClose, callMode, callTransmit, callReceive, callBusStart, callBusResult, callMessage, callTime, callConfigure, callUnconfigure, callListing, callLookup}
@@ -23,7 +24,6 @@ use Rattle.rules.specs.Step.{step}
 use Rattle.rules.specs.Time.{doTime}
 use Rattle.rules.specs.Transmit.{doTransmit, isSelfPoll}
 use Rattle.rules.specs.Unconfigure.{doUnconfigure}
-use Rattle.rules.proofs.Checks.{unless-same}
 
 -- two answers that differ in their kind
 pub differ : {P : Type 0} → _≡_ {A = ℕ} 0 1 → P

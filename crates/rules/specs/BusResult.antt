@@ -6,10 +6,10 @@ use mathlib.Core.List.{List}
 use lib.Dec.{eqb, ltb}
 use lib.ListN.{length, drop}
 use Rattle.constants.specs.Kernel.{EINVAL, CEC-TX-STATUS-OK, CEC-TX-STATUS-ARB-LOST, CEC-TX-STATUS-NACK, CEC-TX-STATUS-LOW-DRIVE, CEC-TX-STATUS-ERROR, CEC-TX-STATUS-MAX-RETRIES, CEC-TX-STATUS-ABORTED, CEC-TX-STATUS-TIMEOUT}
-use Rattle.lists.specs.Tests.{bit}
-use Rattle.lists.specs.Vector.{put}
 use Rattle.entry.specs.Entry.{result, resultCopy}
 use Rattle.entry.specs.declared.Counts.{Counts}
+use Rattle.lists.specs.Tests.{bit}
+use Rattle.lists.specs.Vector.{put}
 use Rattle.rules.specs.Call.{Outcome, finish, unless, check, Answer}
 use Rattle.rules.specs.Deliver.{deliver, copies}
 use Rattle.rules.specs.Handles.{inRole, isMonitor, hasBit}

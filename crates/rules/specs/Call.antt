@@ -4,10 +4,10 @@ use Prim.Native.Nat.{ℕ}
 use mathlib.Core.Bool.{Bool, cond}
 use mathlib.Core.List.{List}
 use lib.Dec.{eqb}
-use Rattle.message.specs.declared.Message.{Message}
 use Rattle.entry.specs.declared.Counts.{Counts}
 use Rattle.entry.specs.declared.Entry.{Entry}
 use Rattle.handle.specs.declared.Row.{Row}
+use Rattle.message.specs.declared.Message.{Message}
 use Rattle.rules.specs.State.{State}
 use Rattle.settings.specs.declared.Settings.{Settings}
 

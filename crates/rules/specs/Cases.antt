@@ -5,12 +5,12 @@ use mathlib.Core.Bool.{Bool, true, false, _&&_}
 use mathlib.Core.List.{List, [], _∷_, _++_}
 use lib.Dec.{eqb}
 use lib.ListN.{replicate, length}
-use Rattle.lists.specs.Tests.{bit}
 use Rattle.entry.specs.Entry.{noCounts}
 use Rattle.handle.specs.declared.Row.{Row}
+use Rattle.lists.specs.Tests.{bit}
 use Rattle.rules.specs.Call.{Call, Request, Answer, refused, done, opened, accepted, received, started, listed, address, callOpen, callTransmit, callReceive, callBusStart, callBusResult, callMessage, callConfigure}
 use Rattle.rules.specs.State.{State, fresh}
-use Rattle.rules.specs.Step.{step}
+use Rattle.rules.specs.Step.{after, step}
 use Rattle.settings.specs.declared.Settings.{Settings}
 
 -- the first row of a listing
@@ -29,11 +29,7 @@ shown (started m) = 0 ∷ m .length ∷ m .bytes
 shown (listed rows) = 0 ∷ rowShown rows
 shown (address a) = 0 ∷ a ∷ []
 
--- the state after some calls, and the answer of the last of a list of calls
-abbrev pub after : State → List Call → State
-after s [] = s
-after s (c ∷ cs) = after (step s c .state) cs
-
+-- the answer of the last of a list of calls
 abbrev pub lastAnswer : State → Answer → List Call → Answer
 lastAnswer s a [] = a
 lastAnswer s a (c ∷ cs) = lastAnswer (step s c .state) (step s c .answer) cs

@@ -7,8 +7,9 @@ use lib.ListN.{length, replicate}
 use Rattle.constants.specs.Kernel.{EPERM, EBADF, EAGAIN, EBUSY, EINVAL, EMFILE, ENOTTY, ENONET}
 use Rattle.entry.specs.Entry.{noCounts}
 use Rattle.rules.specs.Call.{Call, callOpen, callClose, callMode, callTransmit, callReceive, callBusStart, callBusResult, callMessage, callTime, callConfigure, callUnconfigure, callListing, callLookup}
-use Rattle.rules.specs.Cases.{Case, bench, benchSettings, after, request, incoming}
+use Rattle.rules.specs.Cases.{Case, bench, benchSettings, request, incoming}
 use Rattle.rules.specs.State.{State, fresh, withLast}
+use Rattle.rules.specs.Step.{after}
 
 -- handle 0 open, not configured
 abbrev pub unconfigured : State

@@ -5,9 +5,9 @@ use mathlib.Core.Bool.{Bool, _&&_, _||_, not}
 use lib.Dec.{eqb, ltb}
 use lib.ListN.{getD}
 use Rattle.constants.specs.Kernel.{CEC-MODE-EXCL-INITIATOR, CEC-MODE-FOLLOWER, CEC-MODE-EXCL-FOLLOWER, CEC-MODE-EXCL-FOLLOWER-PASSTHRU, CEC-MODE-MONITOR, CEC-MODE-MONITOR-ALL, CEC-PHYS-ADDR-INVALID, CEC-LOG-ADDR-BROADCAST, CEC-LOG-ADDR-UNREGISTERED}
+use Rattle.handle.specs.declared.Handle.{Handle}
 use Rattle.lists.specs.Places.{without}
 use Rattle.lists.specs.Sums.{any}
-use Rattle.handle.specs.declared.Handle.{Handle}
 use Rattle.rules.specs.State.{State, closedHandle}
 
 -- the handle of a number; a number over 7 is that of a closed one

@@ -5,10 +5,10 @@ use mathlib.Core.Bool.{Bool, cond, _&&_, _||_, not}
 use mathlib.Core.List.{List}
 use lib.Dec.{eqb, leb}
 use Rattle.constants.specs.Kernel.{EINVAL, CEC-MODE-FOLLOWER, CEC-MODE-MONITOR-ALL, CEC-MSG-FEATURE-ABORT, CEC-OP-ABORT-UNRECOGNIZED-OP}
-use Rattle.message.specs.Message.{message, initiator, destination, opcode}
-use Rattle.message.specs.declared.Message.{Message}
 use Rattle.entry.specs.Entry.{reply, featureAbortReply, messageCopy}
 use Rattle.entry.specs.declared.Entry.{Entry}
+use Rattle.message.specs.Message.{message, initiator, destination, opcode}
+use Rattle.message.specs.declared.Message.{Message}
 use Rattle.rules.specs.Call.{Outcome, finish, unless, check, Answer}
 use Rattle.rules.specs.Core.{sends, isDirected, isRegistered, isAnswered, answers, isNoted, notes, featureAbort}
 use Rattle.rules.specs.Deliver.{deliver, copies}

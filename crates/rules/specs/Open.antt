@@ -5,8 +5,8 @@ use mathlib.Core.Bool.{Bool, true, not}
 use lib.Dec.{eqb}
 use lib.ListN.{length, set}
 use Rattle.constants.specs.Kernel.{CEC-MODE-INITIATOR, EMFILE}
-use Rattle.lists.specs.Places.{first}
 use Rattle.handle.specs.declared.Handle.{Handle}
+use Rattle.lists.specs.Places.{first}
 use Rattle.rules.specs.Call.{Outcome, finish, unless, check, Answer}
 use Rattle.rules.specs.State.{State, withHandles}
 

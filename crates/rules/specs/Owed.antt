@@ -4,13 +4,13 @@ use Prim.Native.Nat.{ℕ, _+_}
 use mathlib.Core.Bool.{Bool, _||_}
 use mathlib.Core.List.{List, _++_}
 use lib.ListN.{length}
-use Rattle.lists.specs.Sums.{sum, count, any}
 use Rattle.inbox.specs.Inboxes.{inboxOf}
+use Rattle.lists.specs.Sums.{sum, count, any}
 use Rattle.rules.specs.State.{State}
 use Rattle.transmission.specs.Transmission.{roomFor, replyFor, numbered}
 use Rattle.transmission.specs.declared.Transmission.{Transmission}
-use Rattle.wait.specs.Wait.{ownedBy}
 use Rattle.wait.specs.Wait
+use Rattle.wait.specs.Wait.{ownedBy}
 use Rattle.wait.specs.declared.Wait.{Wait}
 
 -- the transmissions on the wire and queued, in the order in which they go out

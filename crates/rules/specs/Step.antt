@@ -46,3 +46,8 @@ stepOf s c = record { before = s; call = c; answer = step s c .answer; after = s
 abbrev pub run : State → List Call → List Step
 run s [] = []
 run s (c ∷ cs) = stepOf s c ∷ run (step s c .state) cs
+
+-- the state after a list of calls
+abbrev pub after : State → List Call → State
+after s [] = s
+after s (c ∷ cs) = after (step s c .state) cs

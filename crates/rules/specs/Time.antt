@@ -4,9 +4,9 @@ use Prim.Native.Nat.{ℕ}
 use mathlib.Core.Bool.{not}
 use mathlib.Core.List.{List, map}
 use lib.Dec.{leb}
+use Rattle.entry.specs.Entry.{timedOut}
 use Rattle.lists.specs.Order.{sort}
 use Rattle.lists.specs.Sums.{keep}
-use Rattle.entry.specs.Entry.{timedOut}
 use Rattle.rules.specs.Call.{Outcome, finish, Answer}
 use Rattle.rules.specs.Deliver.{deliver, each}
 use Rattle.rules.specs.State.{State, withWaits}
