@@ -123,12 +123,12 @@ impl Waits {
         ensures { λ r. ⌜ r ≡ first (answeredBy message) (waitsOf self) ⌝ }
     {
         let n = self.count();
-        let mut i = 0;
-        while i < n {
-            if self.slots[i].answered_by(message) {
-                return i;
+        let mut place = 0;
+        while place < n {
+            if self.slots[place].answered_by(message) {
+                return place;
             }
-            i += 1;
+            place += 1;
         }
         n
     }

@@ -36,10 +36,10 @@ returns : tie.Need-returns Inv-loop μ-loop
 returns c =
     let a = c .before .before .before .before .before .before .args in
     let l = c .before .before .before .before .loop in
-    sym (first-found (a .t1 .slots) (a .t1 .count) _ (c .before .before .before .before .before .count .ensures .0) (answeredBy (a .message)) (l .i) _ (omega arith) (l .inv .1) (sym (c .before .answered-by .ensures) ∙ c .if1 .taken))
+    sym (first-found (a .t1 .slots) (a .t1 .count) _ (c .before .before .before .before .before .count .ensures .0) (answeredBy (a .message)) (l .place) _ (omega arith) (l .inv .1) (sym (c .before .answered-by .ensures) ∙ c .if1 .taken))
 
-add-i : tie.Need-add-i Inv-loop μ-loop
-add-i c = search needs
+add-place : tie.Need-add-place Inv-loop μ-loop
+add-place c = search needs
 
 loop-less : tie.Need-loop-less Inv-loop μ-loop
 loop-less c = search needs
@@ -48,13 +48,13 @@ loop-again : tie.Need-loop-again Inv-loop μ-loop
 loop-again c =
     let a = c .before .before .before .before .before .before .args in
     let l = c .before .before .before .before .loop in
-    (omega arith, any-passed (a .t1 .slots) (a .t1 .count) _ (c .before .before .before .before .before .count .ensures .0) (answeredBy (a .message)) (l .i) _ (omega arith) (l .inv .1) (sym (c .before .answered-by .ensures) ∙ c .if1 .left))
+    (omega arith, any-passed (a .t1 .slots) (a .t1 .count) _ (c .before .before .before .before .before .count .ensures .0) (answeredBy (a .message)) (l .place) _ (omega arith) (l .inv .1) (sym (c .before .answered-by .ensures) ∙ c .if1 .left))
 
 returns-2 : tie.Need-returns-2 Inv-loop μ-loop
 returns-2 c =
     let a = c .before .before .before .args in
     let l = c .before .loop in
-    sym (first-missed (a .t1 .slots) (a .t1 .count) _ (c .before .before .count .ensures .0) (answeredBy (a .message)) (l .i) (omega arith) (l .inv .1))
+    sym (first-missed (a .t1 .slots) (a .t1 .count) _ (c .before .before .count .ensures .0) (answeredBy (a .message)) (l .place) (omega arith) (l .inv .1))
 
 pub first-match-spec : {M : Type 1} → statement M
 first-match-spec =
@@ -68,7 +68,7 @@ first-match-spec =
     element-copy-out-answered-by
     answered-by-requires
     returns
-    add-i
+    add-place
     loop-less
     loop-again
     returns-2)
