@@ -1,20 +1,24 @@
 -- The lent rows once the first n are the adapter's, and what a listing is at its two ends.
 -- Assumes nothing.
 use Prim.Native.Nat.{ℕ, zero, suc, _+_, _≤_, _<_}
-use mathlib.Core.List.{List, [], _∷_, _++_, append-assoc}
+use mathlib.Core.List.{List, [], _∷_, _++_, map, append-assoc}
 use mathlib.Core.Path.{_≡_, refl, sym, _∙_, ap}
 use native.Mathlib.Numerals.{add-one}
 use native.Mathlib.Omega.{arith}
-use lib.ListN.{length, set, drop, length-append, length-drop}
+use lib.Dec.{eqb}
+use lib.ListN.{length, set, drop, length-append, length-drop, drop-of-length-le}
 use lib.Seq.{drop-cons, set-at}
-use borrow.Author.Tests.{lt-ltb, le-ltb}
+use borrow.Author.Tests.{lt-ltb, le-ltb, eqb-true}
 use Rattle.adapter.specs.Adapter.{stateOf}
 use Rattle.adapter.specs.declared.Adapter.{Adapter}
 use Rattle.constants.specs.Kernel.{EINVAL}
 use Rattle.handle.specs.declared.Row.{Row}
 use Rattle.listing.specs.Rows.{listedOf}
-use Rattle.rules.specs.Call.{callListing, unless, check}
+use Rattle.lists.specs.Tests.{split}
+use Rattle.rules.specs.Call.{Outcome, callListing, unless, check, refused, listed}
+use Rattle.rules.specs.Deliver.{handleNumbers}
 use Rattle.rules.specs.Listing.{rowOf, rowsAfter, doListing}
+use Rattle.rules.specs.State.{State}
 use Rattle.rules.specs.Step.{step}
 
 -- a name for the adapter's row, so that it stays one
@@ -53,3 +57,13 @@ short-says a rs h = let e = lt-ltb (length rs) 8 h in (rw e, rw e)
 pub full-says : (a : Adapter) (rs : List Row) → 8 ≤ length rs → Says a rs 0 (written a 8 rs)
 unfolding rowIn rowsAfter doListing unless check
 full-says a rs h = let e = le-ltb (length rs) 8 h in (rw e, rw e)
+
+no-refusal : (e : ℕ) (rs : List Row) → refused e ≡ listed rs → ⊥
+no-refusal e rs q = let p : _≡_ {A = ℕ} 0 1 = cc in omega (arith, p)
+
+-- of eight rows all are filled, and none refused
+pub eight-filled : (s : State) (errno : ℕ) (rs zs : List Row) → length rs ≡ 8 → zs ≡ rowsAfter s rs → listedOf s errno zs ≡ step s (callListing rs) → (errno ≡ 0) × (zs ≡ map (rowOf s) handleNumbers)
+unfolding rowsAfter doListing unless check
+eight-filled s errno rs zs long q o =
+    let e = le-ltb (length rs) 8 (omega (arith, long)) in
+    (split (eqb errno 0) (λ f. eqb-true errno 0 f) (λ f. absurd (no-refusal errno _ (ap (λ (x : Outcome). x .answer) (rw (f, e) at o)))), q ∙ rw (e, drop-of-length-le rs {i = 8} (omega (arith, long))))

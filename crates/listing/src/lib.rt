@@ -11,6 +11,7 @@ ghost use Rattle.rules.specs.Step.{step};
 use adapter::Adapter;
 use constants::EINVAL;
 use handle::Row;
+use rows::closed_row;
 
 // The errno, and the rows as they are left.
 #[repr(C)]
@@ -39,4 +40,23 @@ pub fn listing(adapter: Adapter, rows: &mut [Row]) -> u32
         i += 1;
     }
     0
+}
+
+// The same of rows by value.
+fn listed_in(adapter: Adapter, rows: [Row; 8]) -> Listed
+    ensures { λ r. ⌜ (r .rows ≡ rowsAfter (stateOf adapter) rows) × (listedOf (stateOf adapter) (r .errno) (r .rows) ≡ step (stateOf adapter) (callListing rows)) ⌝ }
+{
+    let mut filled = rows;
+    let errno = listing(adapter, &mut filled);
+    Listed {
+        errno: errno,
+        rows: filled,
+    }
+}
+
+// The listing of exactly eight rows, for a program that lends none: it is never refused.
+pub fn listed_rows(adapter: Adapter) -> Listed
+    ensures { λ r. ⌜ (r .errno ≡ 0) × (r .rows ≡ map (rowOf (stateOf adapter)) handleNumbers) ⌝ }
+{
+    listed_in(adapter, [closed_row(0); 8])
 }

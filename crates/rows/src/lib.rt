@@ -18,7 +18,7 @@ pub struct Noted {
 }
 
 // "a closed row is 0 but for its number"
-fn closed_row(handle: u8) -> Row
+pub fn closed_row(handle: u8) -> Row
     ensures { λ r. ⌜ r ≡ record { number = handle; «is_open» = false; mode = 0; entries = 0; owed = 0; lost = 0 } ⌝ }
 {
     Row {
