@@ -30,7 +30,7 @@ unfolding doLookup
 returns-2 c =
     let a = c .before .before .before .args in
     let e = c .before .before .lookup-errno .ensures in
-    rw (getD-within (a .t1 .noted) (a .address) 0 CEC-PHYS-ADDR-INVALID (omega (arith, noted-long (a .t1) _ (c .before .before .before .good .0), taken (a .address) (sym e ∙ c .before .if1 .left))))
+    rw (getD-within (a .t1 .noted) (a .address) CEC-PHYS-ADDR-INVALID 0 (omega (arith, noted-long (a .t1) _ (c .before .before .before .good .0), taken (a .address) (sym e ∙ c .before .if1 .left))))
     (done-outcome (stateOf (a .t1)) _ _ _ e (c .before .if1 .left))
 
 pub noted-address-spec : {M : Type 1} → statement M

@@ -32,7 +32,7 @@ cast-owed c = search needs
 returns-2 : tie.Need-returns-2
 returns-2 c =
     let o = c .before .before .before .before .before .is-open .ensures in
-    rw (sym o ∙ not-false _ (c .before .before .before .before .if1 .left), c .before .before .before .handle-at .ensures, c .before .before .count .ensures .0, c .before .owed .ensures .0 .0)
+    rw (sym o ∙ not-false _ (c .before .before .before .before .if1 .left), ← c .before .before .before .handle-at .ensures, ← c .before .before .count .ensures .0, ← c .before .owed .ensures .0 .0)
 
 pub row-of-spec : {M : Type 1} → statement M
 row-of-spec =
