@@ -20,6 +20,7 @@ pub struct Listed {
     pub rows: [Row; 8],
 }
 
+// The row of handle i.
 fn row_at(adapter: Adapter, i: usize) -> Row
     requires { ⌜ i < 8 ⌝ }
     ensures { λ r. ⌜ r ≡ rowOf (stateOf adapter) i ⌝ }
