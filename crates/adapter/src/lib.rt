@@ -2,14 +2,18 @@
 ghost use mathlib.Core.Logic.{_≢_};
 ghost use mathlib.Core.Path.{_≡_};
 ghost use Rattle.adapter.specs.Adapter.{stateOf, doneOf, openedOf, transmittedOf, receivedOf, startedOf};
-ghost use Rattle.rules.specs.Call.{callOpen, callClose, callMode, callTransmit, callReceive, callBusStart, callBusResult, callMessage, callTime, callConfigure, callUnconfigure};
+ghost use Rattle.rows.specs.Noted.{notedOf};
+ghost use Rattle.rules.specs.Call.{callOpen, callClose, callMode, callTransmit, callReceive, callBusStart, callBusResult, callMessage, callTime, callConfigure, callUnconfigure, callLookup};
+ghost use Rattle.rules.specs.Listing.{rowOf};
 ghost use Rattle.rules.specs.State.{fresh};
 ghost use Rattle.rules.specs.Step.{step};
 ghost use Rattle.transmit.specs.Request.{requestOf};
 use entry::Counts;
 use entry::Entry;
+use handle::Row;
 use message::Message;
 use parts::Parts;
+use rows::Noted;
 use settings::Settings;
 use transmit::request::Request;
 
@@ -150,6 +154,7 @@ impl Adapter {
     {
         of_done(bus::result::bus_result(self.parts, status, counts))
     }
+
     // A message came from the wire.
     pub fn message(self, length: u8, bytes: [u8; 16]) -> Done
         ensures { λ r. ⌜ doneOf r ≡ step (stateOf self) (callMessage length bytes) ⌝ }
@@ -176,5 +181,19 @@ impl Adapter {
         ensures { λ r. ⌜ doneOf r ≡ step (stateOf self) callUnconfigure ⌝ }
     {
         of_done(configuration::unconfigure::unconfigure(self.parts))
+    }
+
+    // The handle's row in the listing; crate `listing` fills a lent table with them.
+    pub fn row(self, handle: u8) -> Row
+        ensures { λ r. ⌜ r ≡ rowOf (stateOf self) handle ⌝ }
+    {
+        rows::row_of(self.parts, handle)
+    }
+
+    // The address noted for a logical one. It changes nothing, so that no adapter comes back.
+    pub fn lookup(self, address: u8) -> Noted
+        ensures { λ r. ⌜ notedOf (stateOf self) r ≡ step (stateOf self) (callLookup address) ⌝ }
+    {
+        rows::noted_address(self.parts, address)
     }
 }

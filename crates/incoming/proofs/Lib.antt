@@ -1,4 +1,3 @@
 pub mod Alike
 pub mod Copied
 pub mod Turns
-pub mod Lengths

@@ -6,12 +6,14 @@ use constants::CEC_MODE_MONITOR;
 use constants::CEC_MSG_FEATURE_ABORT;
 use constants::CEC_MSG_GIVE_DEVICE_POWER_STATUS;
 use constants::CEC_MSG_IMAGE_VIEW_ON;
+use constants::CEC_MSG_REPORT_PHYSICAL_ADDR;
 use constants::CEC_MSG_REPORT_POWER_STATUS;
 use constants::CEC_TX_STATUS_MAX_RETRIES;
 use constants::CEC_TX_STATUS_NACK;
 use constants::CEC_TX_STATUS_OK;
 use entry::Counts;
 use entry::Entry;
+use handle::Row;
 use settings::Settings;
 use transmit::request::Request;
 
@@ -277,11 +279,50 @@ fn monitoring(adapter: Adapter) -> Adapter {
     answer.adapter
 }
 
-// A monitor has room for 16 copies.
+fn say_row(row: Row) {
+    say_number(b"listing: handle ", row.number as u32);
+    say_number(b", mode ", row.mode);
+    say_number(b", entries ", row.entries);
+    say_number(b", owed ", row.owed);
+    say_number(b", lost ", row.lost);
+    say(b"\n");
+}
+
+// The listing's rows of the three programs.
+fn listed(adapter: Adapter) {
+    let table = listing::listed_rows(adapter);
+    let rows = table.rows;
+    say_row(rows[0]);
+    say_row(rows[1]);
+    say_row(rows[2]);
+}
+
+// A monitor has room for 16 copies; the listing says how many it lost.
 fn watched(adapter: Adapter) -> Adapter {
     let now = nine_told(nine_told(monitoring(opened(adapter, true))));
     say(b"wire: 18 messages from 0 to all\n");
+    listed(now);
     received(received(now, MONITOR), CAMERA)
+}
+
+fn looked_up(adapter: Adapter, address: u8) {
+    let answer = adapter.lookup(address);
+    say_number(b"box: lookup of ", address as u32);
+    say_number(b", errno ", answer.errno);
+    say_number(b", physical address ", answer.address as u32);
+    say(b"\n");
+}
+
+// The amplifier reports its physical address, 0x2000.
+fn reported(adapter: Adapter) -> Adapter {
+    let mut bytes = [0; 16];
+    bytes[0] = AMPLIFIER * 16 + CEC_LOG_ADDR_BROADCAST;
+    bytes[1] = CEC_MSG_REPORT_PHYSICAL_ADDR;
+    bytes[2] = 0x20;
+    let answer = adapter.message(5, bytes);
+    looked_up(answer.adapter, AMPLIFIER);
+    looked_up(answer.adapter, CEC_LOG_ADDR_BROADCAST);
+    answer.adapter
 }
 
 fn address_gone(adapter: Adapter) -> Adapter {
@@ -311,6 +352,7 @@ fn main() {
     now = replies(now);
     now = no_replies(now);
     now = refused(now);
+    now = reported(now);
     now = watched(now);
     unconfigured(now);
 }

@@ -72,7 +72,7 @@ impl Request {
             & (self.is_poll() | (code == CEC_MSG_IMAGE_VIEW_ON) | (code == CEC_MSG_TEXT_VIEW_ON))
     }
 
-    // The timeout in milliseconds: 1000 for 0, if a reply is wanted.
+    // The timeout in milliseconds: one second for 0, if a reply is wanted.
     pub fn timeout_ms(self) -> u32
         ensures { λ r. ⌜ r ≡ timeoutOf (requestOf self) ⌝ }
     {

@@ -2,7 +2,7 @@
 use native.Mathlib.Omega.{arith}
 use lib.Seq.{set-out}
 use borrow.Author.Needs.{needs}
-use Rattle.incoming.proofs.Lengths.{noted-long}
+use Rattle.parts.proofs.Lengths.{noted-long}
 use Rattle.incoming.proofs.step.noted.Statement.{statement}
 use Rattle.incoming.proofs.step.noted.Tie as tie
 
