@@ -111,13 +111,6 @@ impl Waits {
         }
     }
 
-    // The oldest taken out.
-    pub fn take_oldest(self) -> Ended
-        ensures { λ r. ⌜ takenOf r ≡ takenAt 0 (waitsOf self) ⌝ }
-    {
-        self.take_at(0)
-    }
-
     // The place of the oldest that a message ends; the count where there is none.
     fn first_match(self, message: Message) -> usize
         ensures { λ r. ⌜ r ≡ first (answeredBy message) (waitsOf self) ⌝ }
