@@ -1,7 +1,7 @@
 -- A copy that is kept or lost, and copies one after the other.
 -- Assumes nothing.
 use Prim.Native.Nat.{ℕ, zero, suc, _+_, _<_}
-use mathlib.Core.Bool.{cond}
+use mathlib.Core.Bool.{true, false, cond}
 use mathlib.Core.List.{List, [], _∷_, _++_}
 use mathlib.Core.Path.{_≡_, refl}
 use native.Mathlib.Numerals.{add-one}
@@ -13,22 +13,36 @@ use Rattle.copies.specs.Kinds.{getsCopies}
 use Rattle.entry.specs.declared.Entry.{Entry}
 use Rattle.handle.specs.declared.Handle.{Handle}
 use Rattle.inbox.specs.Inboxes.{delivered}
+use Rattle.lists.specs.Tests.{and-false}
 use Rattle.rules.specs.Deliver.{copyTo, each, handleNumbers, loses}
 use Rattle.rules.specs.Handles.{handleAt, inRole}
 use Rattle.rules.specs.Owed.{roomTaken}
 use Rattle.rules.specs.State.{State, withHandles, withInboxes}
 
-pub copy-lost : (e : Entry) (s : State) (h : ℕ) (hs : List Handle) → roomTaken s h ≡ 16 → hs ≡ set (s .handles) h (loses (handleAt s h)) → withHandles s hs ≡ copyTo e s h
+copy-lost : (e : Entry) (s : State) (h : ℕ) (hs : List Handle) → roomTaken s h ≡ 16 → hs ≡ set (s .handles) h (loses (handleAt s h)) → withHandles s hs ≡ copyTo e s h
 unfolding copyTo
 copy-lost e s h hs r q = rw (eq-eqb (roomTaken s h) 16 r, q)
 
-pub copy-kept : (e : Entry) (s : State) (h : ℕ) (is : List (List Entry)) → (roomTaken s h ≡ 16 → ⊥) → is ≡ delivered (s .inboxes) h e → withInboxes s is ≡ copyTo e s h
+copy-kept : (e : Entry) (s : State) (h : ℕ) (is : List (List Entry)) → (roomTaken s h ≡ 16 → ⊥) → is ≡ delivered (s .inboxes) h e → withInboxes s is ≡ copyTo e s h
 unfolding copyTo
 copy-kept e s h is r q = rw (ne-eqb (roomTaken s h) 16 r, q)
 
 -- one turn of the copies
 abbrev pub copyIf : ℕ → Entry → State → ℕ → State
 copyIf kind e t h = cond (inRole (getsCopies kind) (handleAt t h)) (copyTo e t h) t
+
+pub turn-lost : (kind : ℕ) (e : Entry) (s : State) (h : ℕ) (hs : List Handle) → inRole (getsCopies kind) (handleAt s h) ≡ true → roomTaken s h ≡ 16 → hs ≡ set (s .handles) h (loses (handleAt s h)) → withHandles s hs ≡ copyIf kind e s h
+turn-lost kind e s h hs c r q = rw c (copy-lost e s h hs r q)
+
+pub turn-kept : (kind : ℕ) (e : Entry) (s : State) (h : ℕ) (is : List (List Entry)) → inRole (getsCopies kind) (handleAt s h) ≡ true → (roomTaken s h ≡ 16 → ⊥) → is ≡ delivered (s .inboxes) h e → withInboxes s is ≡ copyIf kind e s h
+turn-kept kind e s h is c r q = rw c (copy-kept e s h is r q)
+
+pub turn-none : (kind : ℕ) (e : Entry) (s : State) (h : ℕ) → inRole (getsCopies kind) (handleAt s h) ≡ false → s ≡ copyIf kind e s h
+turn-none kind e s h c = rw c
+
+-- kind 4 is nobody
+pub nobody : (kind : ℕ) (x : Handle) → kind ≡ 4 → inRole (getsCopies kind) x ≡ false
+nobody kind x e = rw e (and-false (x .«is_open»))
 
 each-last : (f : State → ℕ → State) (s : State) (xs : List ℕ) (x : ℕ) → each f s (xs ++ (x ∷ [])) ≡ f (each f s xs) x
 each-last f s [] x = refl

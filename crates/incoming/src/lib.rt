@@ -55,7 +55,7 @@ fn follower_kind(exclusive: bool) -> u8
 fn handled(parts: Parts, message: Message) -> Parts
     ensures { λ r. ⌜ stateOf r ≡ handled (stateOf parts) (matchTaken message (stateOf parts .waits)) message ⌝ }
 {
-    let ended = parts.traffic.waits.take_match(message);
+    let ended = parts.waits.take_match(message);
     let wait = ended.wait;
     let work = core::work_for(parts.settings, message);
     let to_do = steps::choose(parts.handles, work, ended.found, wait.to_followers, message);

@@ -45,14 +45,11 @@ fn elapse(inboxes: Inboxes, waits: Waits, ms: u32) -> Elapsed
 pub fn time(parts: Parts, ms: u32) -> Done
     ensures { λ r. ⌜ doneOf r ≡ doTime (stateOf parts) ms ⌝ }
 {
-    let elapsed = elapse(parts.inboxes, parts.traffic.waits, ms);
-    let mut after = parts;
+    let elapsed = elapse(parts.inboxes(), parts.waits, ms);
     let inboxes = elapsed.inboxes;
-    after.inboxes = inboxes;
-    let mut traffic = parts.traffic;
     let waits = elapsed.waits;
-    traffic.waits = waits;
-    after.traffic = traffic;
+    let mut after = parts.with_inboxes(inboxes);
+    after.waits = waits;
     Done {
         parts: after,
         errno: 0,

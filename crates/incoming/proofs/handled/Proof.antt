@@ -69,7 +69,7 @@ returns c =
     (c .before .before .if2 .came) in
     let copied : stateOf (c .before .if3 .after) ≡ cond (toDo s t m .copies) (copies (inRole (getsCopies (followerKind (toDo s t m .exclusive)))) (messageCopy m) (stateOf (c .before .before .if2 .after))) (stateOf (c .before .before .if2 .after)) =
     ⊎-elim
-    (λ w. when-taken _ _ _ _ (sym (ap (λ (x : Chosen). x .copies) g) ∙ w .0 .taken) (ap stateOf (w .4) ∙ w .3 .ensures ∙ rw (w .1 .ensures, w .2 .ensures, g)))
+    (λ w. when-taken _ _ _ _ (sym (ap (λ (x : Chosen). x .copies) g) ∙ w .0 .taken) (ap stateOf (w .4) ∙ w .3 .ensures .0 ∙ rw (w .1 .ensures, w .2 .ensures, g)))
     (λ w. when-left _ _ _ _ (sym (ap (λ (x : Chosen). x .copies) g) ∙ w .0 .left) (ap stateOf (w .1)))
     (c .before .if3 .came) in
     handled-steps s t m _ _ _ _ noted answered copied (c .aborted .ensures ∙ rw g) ∙ ap (λ (x : Taken). handled s x m) (c .before .before .before .before .before .before .before .before .take-match .ensures)

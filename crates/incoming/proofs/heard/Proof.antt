@@ -37,7 +37,7 @@ returns c =
     let s = stateOf (c .before .before .before .before .before .before .before .before .args .parts) in
     let m = c .before .before .before .before .before .before .before .before .args .message in
     let here = c .before .before .before .before .before .before .is-here .ensures ∙ ap (isHere s) (c .before .before .before .before .before .before .before .destination .ensures .0) in
-    let copied : stateOf (c .before .copies .result) ≡ copies (inRole (monitors s m)) (messageCopy m) s = c .before .copies .ensures ∙ rw (c .before .before .before .monitor-kind .ensures, c .before .before .message-copy .ensures) (monitors-same s m (c .before .before .before .before .before .before .is-here .result) (messageCopy m) here) in
+    let copied : stateOf (c .before .copies .result) ≡ copies (inRole (monitors s m)) (messageCopy m) s = c .before .copies .ensures .0 ∙ rw (c .before .before .before .monitor-kind .ensures, c .before .before .message-copy .ensures) (monitors-same s m (c .before .before .before .before .before .before .is-here .result) (messageCopy m) here) in
     heard-stopped s m _ copied (rw (c .before .before .before .before .before .is-configured .ensures, c .before .before .before .before .length .ensures, here) at (c .if1 .taken))
 
 handled-requires : tie.Need-handled-requires
@@ -48,7 +48,7 @@ returns-2 c =
     let s = stateOf (c .before .before .before .before .before .before .before .before .before .args .parts) in
     let m = c .before .before .before .before .before .before .before .before .before .args .message in
     let here = c .before .before .before .before .before .before .before .is-here .ensures ∙ ap (isHere s) (c .before .before .before .before .before .before .before .before .destination .ensures .0) in
-    let copied : stateOf (c .before .before .copies .result) ≡ copies (inRole (monitors s m)) (messageCopy m) s = c .before .before .copies .ensures ∙ rw (c .before .before .before .before .monitor-kind .ensures, c .before .before .before .message-copy .ensures) (monitors-same s m (c .before .before .before .before .before .before .before .is-here .result) (messageCopy m) here) in
+    let copied : stateOf (c .before .before .copies .result) ≡ copies (inRole (monitors s m)) (messageCopy m) s = c .before .before .copies .ensures .0 ∙ rw (c .before .before .before .before .monitor-kind .ensures, c .before .before .before .message-copy .ensures) (monitors-same s m (c .before .before .before .before .before .before .before .is-here .result) (messageCopy m) here) in
     heard-on s m _ _ copied (rw (c .before .before .before .before .before .before .is-configured .ensures, c .before .before .before .before .before .length .ensures, here) at (c .before .if1 .left)) (c .handled .ensures)
 
 pub heard-spec : {M : Type 1} → statement M
