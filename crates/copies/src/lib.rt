@@ -2,6 +2,8 @@
 ghost use Prim.Native.Nat.{_+_, min};
 ghost use mathlib.Core.Path.{_≡_};
 ghost use Rattle.copies.specs.Kinds.{getsCopies};
+ghost use Rattle.handles.specs.Roles.{handlesOf};
+ghost use Rattle.lists.specs.Sums.{any};
 ghost use Rattle.parts.specs.Parts.{stateOf};
 ghost use Rattle.rules.specs.Deliver.{copies, loses};
 ghost use Rattle.rules.specs.Handles.{inRole};
@@ -9,6 +11,7 @@ use constants::CEC_MODE_FOLLOWER;
 use constants::CEC_MODE_MONITOR_ALL;
 use entry::Entry;
 use handle::Handle;
+use handles::Handles;
 use handles::mode::follower_part;
 use handles::mode::is_exclusive_follower;
 use handles::mode::is_monitor;
@@ -89,4 +92,17 @@ pub fn copies(mut parts: Parts, kind: u8, entry: Entry) -> Parts
         handle += 1;
     }
     parts
+}
+
+// Whether there is a handle of a kind.
+pub fn has(handles: Handles, kind: u8) -> bool
+    ensures { λ r. ⌜ r ≡ any (inRole (getsCopies kind)) (handlesOf handles) ⌝ }
+{
+    let mut found = false;
+    let mut handle: u8 = 0;
+    while handle < 8 {
+        found = found | is_copied(kind, handles.at(handle));
+        handle += 1;
+    }
+    found
 }
