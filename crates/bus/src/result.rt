@@ -1,32 +1,28 @@
 // Bus result.
+ghost use mathlib.Core.Bool.{true, false, cond};
 ghost use mathlib.Core.Logic.{_≢_};
 ghost use mathlib.Core.Path.{_≡_};
 ghost use Rattle.parts.specs.Parts.{stateOf, doneOf};
-ghost use Rattle.rules.specs.BusResult.{busResultRefusal, doBusResult, waitFor, begun, concluded};
-ghost use Rattle.transmission.specs.Transmission.{headOf};
-ghost use Rattle.waits.specs.Waits.{waitsOf};
+ghost use Rattle.rules.specs.BusResult.{busResultRefusal, doBusResult, concluded, waitFor};
 use crate::status::is_final;
 use crate::status::is_ok;
 use crate::status::kept_counts;
 use constants::EINVAL;
 use copies::MONITORS;
+use copies::NOBODY;
 use entry::Counts;
 use entry::Entry;
 use parts::Done;
 use parts::Parts;
 use parts::check;
+use transmission::NO_OWNER;
 use transmission::Transmission;
 use wait::Wait;
-use waits::Waits;
 
 fn bus_result_errno(parts: Parts, status: u8) -> u32
     ensures { λ r. ⌜ r ≡ busResultRefusal (stateOf parts) status ⌝ }
 {
-    check(
-        !((0 < parts.traffic.wire.count()) & is_final(status)),
-        EINVAL,
-        0,
-    )
+    check(!((0 < parts.wire.count()) & is_final(status)), EINVAL, 0)
 }
 
 // The wait for the reply to a transmission.
@@ -44,32 +40,41 @@ fn wait_for(sent: Transmission) -> Wait
     }
 }
 
-// The waits, with that for a transmission that got through and wants a reply.
-fn begun(waits: Waits, status: u8, sent: Transmission) -> Waits
-    ensures { λ r. ⌜ waitsOf r ≡ begun status sent (waitsOf waits) ⌝ }
+// Which handles see a result: the monitors, if the call is taken.
+fn watchers(taken: bool) -> u8
+    ensures { λ r. ⌜ r ≡ cond taken 0 4 ⌝ }
 {
-    if is_ok(status) & sent.wants_reply {
-        return waits.put(wait_for(sent));
-    }
-    waits
+    if taken { MONITORS } else { NOBODY }
 }
 
-// Copies for the monitors, the result for the owner, the wait.
-fn concluded(parts: Parts, sent: Transmission, status: u8, kept: Counts) -> Parts
-    ensures { λ r. ⌜ stateOf r ≡ concluded (stateOf parts) sent status kept ⌝ }
+// Whom the result is for: the owner, if the call is taken.
+fn receiver(taken: bool, sent: Transmission) -> u8
+    ensures { λ r. ⌜ r ≡ cond taken (sent .owner) 255 ⌝ }
+{
+    if taken { sent.owner } else { NO_OWNER }
+}
+
+// Copies for the monitors, the result for the owner, the wait. A refused call changes nothing.
+fn concluded(parts: Parts, taken: bool, sent: Transmission, status: u8, kept: Counts) -> Parts
+    ensures { λ r. ⌜ (taken ≡ true → stateOf r ≡ concluded (stateOf parts) sent status kept) ⌝ }
+    ensures { λ r. ⌜ (taken ≡ false → r ≡ parts) ⌝ }
 {
     let message = sent.message;
-    let mut after = copies::copies(parts, MONITORS, Entry::result_copy(status, kept, message));
-    after.inboxes = after.inboxes.put(
-        sent.owner,
+    let copied = copies::copies(
+        parts,
+        watchers(taken),
+        Entry::result_copy(status, kept, message),
+    );
+    let mut after = copied.deliver(
+        receiver(taken, sent),
         Entry::result(sent.number, status, kept, message),
     );
-    let taken = parts.traffic.wire.take();
-    let wire = taken.wire;
-    let mut traffic = after.traffic;
-    traffic.wire = wire;
-    traffic.waits = begun(parts.traffic.waits, status, sent);
-    after.traffic = traffic;
+    if taken {
+        after.wire = after.wire.without_head();
+        if is_ok(status) & sent.wants_reply {
+            after.waits = after.waits.put(wait_for(sent));
+        }
+    }
     after
 }
 
@@ -78,16 +83,10 @@ pub fn bus_result(parts: Parts, status: u8, counts: Counts) -> Done
     ensures { λ r. ⌜ (r .errno ≢ 0 → r .parts ≡ parts) ⌝ }
 {
     let errno = bus_result_errno(parts, status);
-    if errno != 0 {
-        return Done {
-            parts: parts,
-            errno: errno,
-        };
-    }
-    let sent = parts.traffic.wire.head();
-    let after = concluded(parts, sent, status, kept_counts(status, counts));
+    let sent = parts.wire.head();
+    let after = concluded(parts, errno == 0, sent, status, kept_counts(status, counts));
     Done {
         parts: after,
-        errno: 0,
+        errno: errno,
     }
 }

@@ -22,36 +22,27 @@ fn bus_start_errno(parts: Parts) -> u32
     ensures { λ r. ⌜ r ≡ busStartRefusal (stateOf parts) ⌝ }
 {
     check(
-        0 < parts.traffic.wire.count(),
+        0 < parts.wire.count(),
         EBUSY,
-        check(parts.traffic.queue.count() == 0, EAGAIN, 0),
+        check(parts.queue.count() == 0, EAGAIN, 0),
     )
 }
 
-pub fn bus_start(parts: Parts) -> Started
+pub fn bus_start(mut parts: Parts) -> Started
     ensures { λ r. ⌜ startedOf r ≡ doBusStart (stateOf parts) ⌝ }
     ensures { λ r. ⌜ (r .errno ≢ 0 → r .parts ≡ parts) ⌝ }
 {
     let errno = bus_start_errno(parts);
-    if errno != 0 {
-        return Started {
-            parts: parts,
-            errno: errno,
-            message: Message::new(0, [0; 16]),
-        };
+    let mut message = Message::new(0, [0; 16]);
+    if errno == 0 {
+        let head = parts.queue.head();
+        parts.queue = parts.queue.without_head();
+        parts.wire = parts.wire.put(head);
+        message = head.message;
     }
-    let taken = parts.traffic.queue.take();
-    let head = taken.transmission;
-    let mut traffic = parts.traffic;
-    let queue = taken.queue;
-    traffic.queue = queue;
-    traffic.wire = parts.traffic.wire.put(head);
-    let mut after = parts;
-    after.traffic = traffic;
-    let message = head.message;
     Started {
-        parts: after,
-        errno: 0,
+        parts: parts,
+        errno: errno,
         message: message,
     }
 }

@@ -30,7 +30,8 @@ aborted-one is (t ∷ []) e h = refl
 aborted-one is (t ∷ (u ∷ ts)) e h = absurd (omega arith)
 
 -- the rule's state, from its parts: the inboxes alone are worked on
-pub unconfigured : (s : State) (is : List (List Entry)) (queue wire : List Transmission) (waits : List Wait) (settings : Settings) (noted : List ℕ)
+pub unconfigured : (s u : State) (is : List (List Entry)) (queue wire : List Transmission) (waits : List Wait) (settings : Settings) (noted : List ℕ)
+    → u ≡ withInboxes s is
     → is ≡ waitsAborted (transmitsAborted (s .inboxes) (pending s)) (s .waits)
     → queue ≡ []
     → wire ≡ []
@@ -38,9 +39,9 @@ pub unconfigured : (s : State) (is : List (List Entry)) (queue wire : List Trans
     → settings ≡ noSettings
     → noted ≡ noneNoted
     → _≡_ {A = State}
-    (record { capabilities = s .capabilities; handles = s .handles; inboxes = is; queue = queue; wire = wire; waits = waits; last = s .last; settings = settings; noted = noted })
+    (record { capabilities = u .capabilities; handles = u .handles; inboxes = u .inboxes; queue = queue; wire = wire; waits = waits; last = u .last; settings = settings; noted = noted })
     (each abortWait (each abortTransmit (unset s) (pending s)) (s .waits))
-unconfigured s is queue wire waits settings noted a b c d e f =
+unconfigured s u is queue wire waits settings noted p a b c d e f =
     let sent = each-delivers (λ t. t .owner) abortedResult (unset s) (pending s) in
     let waited = each-delivers (λ w. w .owner) abortedReply (withInboxes (unset s) (transmitsAborted (s .inboxes) (pending s))) (s .waits) in
-    rw (a, b, c, d, e, f, sent) (sym waited)
+    rw (p, a, b, c, d, e, f, sent) (sym waited)

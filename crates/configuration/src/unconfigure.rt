@@ -5,7 +5,7 @@ ghost use Rattle.inbox.specs.Inboxes.{inboxesOf, delivered};
 ghost use Rattle.parts.specs.Parts.{stateOf, doneOf};
 ghost use Rattle.queue.specs.Queue.{queueOf};
 ghost use Rattle.rules.specs.Unconfigure.{doUnconfigure};
-ghost use Rattle.traffic.specs.Traffic.{pendingOf, waitingOf};
+ghost use Rattle.traffic.specs.Traffic.{pendingOf};
 ghost use Rattle.waits.specs.Waits.{waitsOf};
 ghost use Rattle.wire.specs.Wire.{wireOf};
 use constants::CEC_TX_STATUS_ABORTED;
@@ -17,7 +17,6 @@ use parts::Parts;
 use parts::no_settings;
 use parts::none_noted;
 use queue::Queue;
-use traffic::Traffic;
 use transmission::Transmission;
 use wait::Wait;
 use waits::Waits;
@@ -84,21 +83,23 @@ fn abort_waits(inboxes: Inboxes, waits: Waits) -> Inboxes
 }
 
 // All that is on its way ends: the wire, then the queue, then the waits.
-fn abort(inboxes: Inboxes, traffic: Traffic) -> Inboxes
-    ensures { λ r. ⌜ inboxesOf r ≡ waitsAborted (transmitsAborted (inboxesOf inboxes) (pendingOf traffic)) (waitingOf traffic) ⌝ }
+fn abort(inboxes: Inboxes, queue: Queue, wire: Wire, waits: Waits) -> Inboxes
+    ensures { λ r. ⌜ inboxesOf r ≡ waitsAborted (transmitsAborted (inboxesOf inboxes) (pendingOf wire queue)) (waitsOf waits) ⌝ }
 {
-    let after_wire = abort_wire(inboxes, traffic.wire);
-    let after_queue = abort_queue(after_wire, traffic.queue);
-    abort_waits(after_queue, traffic.waits)
+    let after_wire = abort_wire(inboxes, wire);
+    let after_queue = abort_queue(after_wire, queue);
+    abort_waits(after_queue, waits)
 }
 
 // All that is on its way ends; address 0xFFFF, mask 0, noted addresses cleared, the other settings 0.
 pub fn unconfigure(parts: Parts) -> Done
     ensures { λ r. ⌜ doneOf r ≡ doUnconfigure (stateOf parts) ⌝ }
 {
-    let mut after = parts;
-    after.inboxes = abort(parts.inboxes, parts.traffic);
-    after.traffic = Traffic::none();
+    let inboxes = abort(parts.inboxes(), parts.queue, parts.wire, parts.waits);
+    let mut after = parts.with_inboxes(inboxes);
+    after.queue = Queue::empty();
+    after.wire = Wire::idle();
+    after.waits = Waits::empty();
     after.settings = no_settings();
     let noted = none_noted();
     after.noted = noted;

@@ -2,17 +2,21 @@
 ghost use Prim.Native.Nat.{_+_, min};
 ghost use mathlib.Core.Path.{_≡_};
 ghost use Rattle.copies.specs.Kinds.{getsCopies};
+ghost use Rattle.handles.specs.Roles.{handlesOf};
+ghost use Rattle.lists.specs.Sums.{any};
 ghost use Rattle.parts.specs.Parts.{stateOf};
-ghost use Rattle.rules.specs.Deliver.{copyTo, copies};
+ghost use Rattle.rules.specs.Deliver.{copies, loses};
 ghost use Rattle.rules.specs.Handles.{inRole};
 use constants::CEC_MODE_FOLLOWER;
 use constants::CEC_MODE_MONITOR_ALL;
 use entry::Entry;
 use handle::Handle;
+use handles::Handles;
 use handles::mode::follower_part;
 use handles::mode::is_exclusive_follower;
 use handles::mode::is_monitor;
 use parts::Parts;
+use parts::count_at;
 
 // Who gets copies.
 pub const MONITORS: u8 = 0;
@@ -22,6 +26,8 @@ pub const MONITORS_OF_ALL: u8 = 1;
 pub const EXCLUSIVE_FOLLOWER: u8 = 2;
 
 pub const FOLLOWERS: u8 = 3;
+
+pub const NOBODY: u8 = 4;
 
 fn gets_copies(kind: u8, mode: u32) -> bool
     ensures { λ r. ⌜ r ≡ getsCopies kind mode ⌝ }
@@ -35,7 +41,7 @@ fn gets_copies(kind: u8, mode: u32) -> bool
     if kind == EXCLUSIVE_FOLLOWER {
         return is_exclusive_follower(mode);
     }
-    follower_part(mode) == CEC_MODE_FOLLOWER
+    (kind == FOLLOWERS) & (follower_part(mode) == CEC_MODE_FOLLOWER)
 }
 
 // A lost count raised by one; it stays at its greatest.
@@ -49,19 +55,12 @@ fn raised(lost: u32) -> u32
     }
 }
 
-// A copy for one handle, or one more lost.
-pub fn copy_to(parts: Parts, entry: Entry, handle: u8) -> Parts
-    ensures { λ r. ⌜ stateOf r ≡ copyTo entry (stateOf parts) handle ⌝ }
+// A handle with one more lost.
+fn loses(mut handle: Handle) -> Handle
+    ensures { λ r. ⌜ r ≡ loses handle ⌝ }
 {
-    let mut after = parts;
-    if parts.room_taken(handle) == 16 {
-        let mut x = parts.handle_at(handle);
-        x.lost = raised(x.lost);
-        after.handles = parts.handles.with(handle, x);
-        return after;
-    }
-    after.inboxes = parts.inboxes.put(handle, entry);
-    after
+    handle.lost = raised(handle.lost);
+    handle
 }
 
 fn is_copied(kind: u8, handle: Handle) -> bool
@@ -70,17 +69,40 @@ fn is_copied(kind: u8, handle: Handle) -> bool
     handle.is_open & gets_copies(kind, handle.mode)
 }
 
-// Copies for all handles of a kind, ascending.
-pub fn copies(parts: Parts, kind: u8, entry: Entry) -> Parts
+// Copies for all handles of a kind, ascending: one that has no room left loses its copy.
+pub fn copies(mut parts: Parts, kind: u8, entry: Entry) -> Parts
     ensures { λ r. ⌜ stateOf r ≡ copies (inRole (getsCopies kind)) entry (stateOf parts) ⌝ }
+    ensures { λ r. ⌜ (kind ≡ 4 → r ≡ parts) ⌝ }
 {
-    let mut after = parts;
-    let mut handle = 0;
+    let mut handle: u8 = 0;
     while handle < 8 {
-        if is_copied(kind, after.handle_at(handle)) {
-            after = copy_to(after, entry, handle);
+        let x = parts.handles.at(handle);
+        if is_copied(kind, x) {
+            let counts = parts.counts;
+            let n = count_at(counts, handle);
+            let owed = traffic::owed(parts.queue, parts.wire, parts.waits, handle);
+            if n + owed.room == 16 {
+                parts.handles = parts.handles.with(handle, loses(x));
+            } else if n < 16 {
+                let h = handle as usize;
+                parts.entries[16 * h + n] = entry;
+                parts.counts[h] = n + 1;
+            }
         }
         handle += 1;
     }
-    after
+    parts
+}
+
+// Whether there is a handle of a kind.
+pub fn has(handles: Handles, kind: u8) -> bool
+    ensures { λ r. ⌜ r ≡ any (inRole (getsCopies kind)) (handlesOf handles) ⌝ }
+{
+    let mut found = false;
+    let mut handle: u8 = 0;
+    while handle < 8 {
+        found = found | is_copied(kind, handles.at(handle));
+        handle += 1;
+    }
+    found
 }

@@ -7,7 +7,6 @@ use mir.Val.{Val}
 use denote.Laws.{Is}
 use Rattle.lists.specs.Blocks.{length-parts}
 use Rattle.lists.specs.Elements.{unmapped}
-use Rattle.entry.specs.declared.Entry.{Entry}
 use Rattle.inbox.specs.Inboxes.{inboxesOf}
 use Rattle.inbox.specs.declared.Inboxes.{Inboxes}
 use Rattle.inbox.proofs.Inboxes as the
@@ -20,7 +19,3 @@ counts-long b vs p = unmapped _ (b .counts) 8 (p .1 .1 .1 .0 .1 .0 .1)
 
 pub inboxes-long : (b : Inboxes) (vs : List Val) → Is the.the-row b vs → length (inboxesOf b) ≡ 8
 inboxes-long b vs p = length-parts 16 (b .counts) (b .entries) ∙ counts-long b vs p
-
--- the inboxes with other entries
-abbrev pub withEntries : Inboxes → List Entry → Inboxes
-withEntries b l = record { entries = l; counts = b .counts }

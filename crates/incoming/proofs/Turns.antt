@@ -6,15 +6,16 @@ use Rattle.constants.specs.Kernel.{CEC-OP-ABORT-UNRECOGNIZED-OP}
 use Rattle.copies.specs.Kinds.{getsCopies}
 use Rattle.core.specs.Work.{messageOf, abortOf, workOf}
 use Rattle.entry.specs.Entry.{messageCopy}
+use Rattle.entry.specs.declared.Entry.{Entry}
 use Rattle.incoming.proofs.Alike.{Alike, alike-trans, replied-alike, notes-alike, answers-alike, followed-alike}
 use Rattle.incoming.proofs.Copied.{copies-waits, followers-same}
 use Rattle.incoming.specs.Steps.{followerKind, notedIn, putInto}
 use Rattle.message.specs.declared.Message.{Message}
 use Rattle.rules.specs.Core.{answers, coreAnswer, notes, sends}
-use Rattle.rules.specs.Deliver.{copies}
+use Rattle.rules.specs.Deliver.{copies, deliver}
 use Rattle.rules.specs.Handles.{inRole, someone, isExclusiveFollower, isFollower, isPassthrough}
-use Rattle.rules.specs.Incoming.{followed, handled, heard, monitors, refusedMessage, replied, stops}
-use Rattle.rules.specs.State.{State}
+use Rattle.rules.specs.Incoming.{followed, handled, heard, monitors, refusedMessage, replied, replyEntry, stops}
+use Rattle.rules.specs.State.{State, withWaits}
 use Rattle.steps.specs.Steps.{chosenOf}
 use Rattle.steps.specs.declared.Chosen.{Chosen}
 use Rattle.waits.specs.Waits.{Taken, matchTaken}
@@ -72,3 +73,7 @@ module _ (s : State) (t : Taken) (m : Message) where
       pe
       ∙ abort-step d kd
       ∙ ap (λ (x : State). refusedMessage x t m) (qd ∙ ap (λ (x : State). followed x t m) (qc ∙ ap (λ (x : State). answers x m) qb))
+
+-- a reply, from the state after its entry came
+pub replied-parts : (s u : State) (t : Taken) (m : Message) (e : Entry) → t .found ≡ true → e ≡ replyEntry (t .wait .number) m → u ≡ deliver s (t .wait .owner) e → withWaits u (t .rest) ≡ replied s t m
+replied-parts s u t m e f q p = rw (p, q, f)

@@ -55,7 +55,7 @@ fn follower_kind(exclusive: bool) -> u8
 fn handled(parts: Parts, message: Message) -> Parts
     ensures { λ r. ⌜ stateOf r ≡ handled (stateOf parts) (matchTaken message (stateOf parts .waits)) message ⌝ }
 {
-    let ended = parts.traffic.waits.take_match(message);
+    let ended = parts.waits.take_match(message);
     let wait = ended.wait;
     let work = core::work_for(parts.settings, message);
     let to_do = steps::choose(parts.handles, work, ended.found, wait.to_followers, message);
@@ -66,12 +66,9 @@ fn handled(parts: Parts, message: Message) -> Parts
     if to_do.answers {
         after = step::sent(after, work.answer);
     }
-    if to_do.copies {
-        after = copies::copies(
-            after,
-            follower_kind(to_do.exclusive),
-            Entry::message_copy(message),
-        );
+    let kind = follower_kind(to_do.exclusive);
+    if to_do.copies & copies::has(after.handles, kind) {
+        after = copies::copies(after, kind, Entry::message_copy(message));
     }
     step::aborted(after, to_do.aborts, message)
 }
@@ -81,11 +78,18 @@ fn heard(parts: Parts, message: Message) -> Parts
 {
     let here = is_here(parts, message.destination());
     let stops = !parts.is_configured() | (message.length() == 1) | !here;
-    let copied = copies::copies(parts, monitor_kind(here), Entry::message_copy(message));
-    if stops {
-        return copied;
+    let kind = monitor_kind(here);
+    if copies::has(parts.handles, kind) {
+        let copied = copies::copies(parts, kind, Entry::message_copy(message));
+        if stops {
+            return copied;
+        }
+        return handled(copied, message);
     }
-    handled(copied, message)
+    if stops {
+        return parts;
+    }
+    handled(parts, message)
 }
 
 pub fn message(parts: Parts, length: u8, bytes: [u8; 16]) -> Done

@@ -33,13 +33,8 @@ pub fn replied(parts: Parts, ended: Ended, message: Message) -> Parts
     if ended.found {
         let wait = ended.wait;
         let waits = ended.waits;
-        let mut traffic = parts.traffic;
-        traffic.waits = waits;
-        let mut after = parts;
-        after.traffic = traffic;
-        after.inboxes = parts
-            .inboxes
-            .put(wait.owner, reply_entry(wait.number, message));
+        let mut after = parts.deliver(wait.owner, reply_entry(wait.number, message));
+        after.waits = waits;
         return after;
     }
     parts
@@ -71,10 +66,8 @@ pub fn sent(parts: Parts, message: Message) -> Parts
     ensures { λ r. ⌜ stateOf r ≡ putInto (stateOf parts) message ⌝ }
 {
     if parts.can_transmit {
-        let mut traffic = parts.traffic;
-        traffic.queue = traffic.queue.put(Transmission::ownerless(message));
         let mut after = parts;
-        after.traffic = traffic;
+        after.queue = parts.queue.put(Transmission::ownerless(message));
         return after;
     }
     parts

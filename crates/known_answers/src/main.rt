@@ -2,9 +2,11 @@
 use adapter::Adapter;
 use constants::CEC_TX_STATUS_OK;
 use entry::Counts;
+use queue::Queue;
 use settings::Settings;
-use traffic::Traffic;
 use transmit::request::Request;
+use waits::Waits;
+use wire::Wire;
 
 fn say(text: &[u8], number: u32) {
     io::write_all(1, text);
@@ -136,7 +138,7 @@ fn nineteenth() -> u32 {
 }
 
 fn last_number() -> u32 {
-    Traffic::none().next_number(4294967295)
+    traffic::next_number(Queue::empty(), Wire::idle(), Waits::empty(), 4294967295)
 }
 
 fn main() {

@@ -5,22 +5,27 @@ use mathlib.Core.Bool.{cond}
 use lib.Dec.{eqb}
 use Rattle.handles.specs.Roles.{handlesOf}
 use Rattle.inbox.specs.Inboxes.{inboxesOf}
+use Rattle.inbox.specs.declared.Inboxes.{Inboxes}
 use Rattle.parts.specs.declared.Done.{Done}
 use Rattle.parts.specs.declared.Parts.{Parts}
 use Rattle.queue.specs.Queue.{queueOf}
 use Rattle.rules.specs.Call.{Answer, Outcome, finish, refused, done}
 use Rattle.rules.specs.State.{State}
-use Rattle.traffic.specs.Traffic.{waitingOf}
+use Rattle.waits.specs.Waits.{waitsOf}
 use Rattle.wire.specs.Wire.{wireOf}
+
+-- the inboxes
+abbrev pub boxesOf : Parts → Inboxes
+boxesOf p = record { entries = p .entries; counts = p .counts }
 
 abbrev pub stateOf : Parts → State
 stateOf p = record {
   capabilities = record { transmit = p .«can_transmit»; monitorAll = p .«can_monitor_all» };
   handles = handlesOf (p .handles);
-  inboxes = inboxesOf (p .inboxes);
-  queue = queueOf (p .traffic .queue);
-  wire = wireOf (p .traffic .wire);
-  waits = waitingOf (p .traffic);
+  inboxes = inboxesOf (boxesOf p);
+  queue = queueOf (p .queue);
+  wire = wireOf (p .wire);
+  waits = waitsOf (p .waits);
   last = p .last;
   settings = p .settings;
   noted = p .noted;

@@ -1,26 +1,35 @@
 // The adapter's parts, and what each call asks of them.
-ghost use Prim.Native.Nat.{_≤_};
+ghost use Prim.Native.Nat.{_≤_, min};
 ghost use mathlib.Core.Path.{_≡_};
+ghost use lib.ListN.{getD, length};
+ghost use Rattle.inbox.specs.Inboxes.{inboxesOf, inboxOf};
 ghost use Rattle.rules.specs.Call.{check};
+ghost use Rattle.rules.specs.Deliver.{deliver};
 ghost use Rattle.rules.specs.Handles.{handleAt, isOpen, isConfigured, isOwn};
-ghost use Rattle.rules.specs.Owed.{roomTaken, wantedReplies};
-ghost use Rattle.rules.specs.State.{fresh, noSettings, noneNoted};
-ghost use Rattle.parts.specs.Parts.{stateOf};
+ghost use Rattle.rules.specs.State.{fresh, noSettings, noneNoted, withInboxes};
+ghost use Rattle.parts.specs.Parts.{boxesOf, stateOf};
 use constants::CEC_LOG_ADDR_UNREGISTERED;
 use constants::CEC_PHYS_ADDR_INVALID;
+use entry::Entry;
 use handle::Handle;
 use handles::Handles;
 use inbox::Inboxes;
+use queue::Queue;
 use settings::Settings;
-use traffic::Traffic;
+use waits::Waits;
+use wire::Wire;
 
+// The inboxes lie in `entries`, handle h's in the 16 places from 16 * h on, with their `counts` beside them: arrays that lie in the struct itself are written in place.
 #[repr(C)]
 pub struct Parts {
+    pub entries: [Entry; 128],
+    pub counts: [usize; 8],
+    pub queue: Queue,
+    pub wire: Wire,
+    pub waits: Waits,
+    pub handles: Handles,
     pub can_transmit: bool,
     pub can_monitor_all: bool,
-    pub handles: Handles,
-    pub inboxes: Inboxes,
-    pub traffic: Traffic,
     pub last: u32,
     pub settings: Settings,
     pub noted: [u16; 15],
@@ -62,17 +71,36 @@ pub fn none_noted() -> [u16; 15]
     [CEC_PHYS_ADDR_INVALID; 15]
 }
 
+// How many entries a handle has, by the counts; none for a number over 7, and a count past 16 counts as 16.
+pub fn count_at(counts: [usize; 8], handle: u8) -> usize
+    ensures { λ r. ⌜ r ≡ min (getD counts handle 0) 16 ⌝ }
+    ensures { λ r. ⌜ r ≤ 16 ⌝ }
+{
+    let h = handle as usize;
+    if 8 <= h {
+        return 0;
+    }
+    let n = counts[h];
+    if n < 16 { n } else { 16 }
+}
+
 impl Parts {
     // A fresh adapter, for any capabilities.
     pub fn fresh(can_transmit: bool, can_monitor_all: bool) -> Parts
         ensures { λ r. ⌜ stateOf r ≡ fresh (record { transmit = «can_transmit»; monitorAll = «can_monitor_all» }) ⌝ }
     {
+        let inboxes = Inboxes::empty();
+        let entries = inboxes.entries;
+        let counts = inboxes.counts;
         Parts {
+            entries: entries,
+            counts: counts,
+            queue: Queue::empty(),
+            wire: Wire::idle(),
+            waits: Waits::empty(),
+            handles: Handles::all_closed(),
             can_transmit: can_transmit,
             can_monitor_all: can_monitor_all,
-            handles: Handles::all_closed(),
-            inboxes: Inboxes::empty(),
-            traffic: Traffic::none(),
             last: 0,
             settings: no_settings(),
             noted: none_noted(),
@@ -91,19 +119,52 @@ impl Parts {
         self.handles.at(handle).is_open
     }
 
-    // Entries plus owed room.
-    pub fn room_taken(self, handle: u8) -> usize
-        ensures { λ r. ⌜ r ≡ roomTaken (stateOf self) handle ⌝ }
-        ensures { λ r. ⌜ r ≤ 86 ⌝ }
+    // How many entries a handle has.
+    pub fn count(self, handle: u8) -> usize
+        ensures { λ r. ⌜ r ≡ length (inboxOf (stateOf self .inboxes) handle) ⌝ }
+        ensures { λ r. ⌜ r ≤ 16 ⌝ }
     {
-        self.inboxes.count(handle) + self.traffic.owed(handle).room
+        let counts = self.counts;
+        count_at(counts, handle)
     }
 
-    // How many of the handle's transmits and waits want a reply.
-    pub fn wanted_replies(self, handle: u8) -> usize
-        ensures { λ r. ⌜ r ≡ wantedReplies (stateOf self) handle ⌝ }
+    // One more entry at the end of an inbox; a full one stays, and a number over 7 has none.
+    pub fn deliver(mut self, handle: u8, entry: Entry) -> Parts
+        ensures { λ r. ⌜ stateOf r ≡ deliver (stateOf self) handle entry ⌝ }
+        ensures { λ r. ⌜ (8 ≤ handle → r ≡ self) ⌝ }
     {
-        self.traffic.owed(handle).replies
+        let h = handle as usize;
+        if h < 8 {
+            let n = self.counts[h];
+            if n < 16 {
+                self.entries[16 * h + n] = entry;
+                self.counts[h] = n + 1;
+            }
+        }
+        self
+    }
+
+    // The inboxes by themselves.
+    pub fn inboxes(self) -> Inboxes
+        ensures { λ r. ⌜ r ≡ boxesOf self ⌝ }
+    {
+        let entries = self.entries;
+        let counts = self.counts;
+        Inboxes {
+            entries: entries,
+            counts: counts,
+        }
+    }
+
+    // With other inboxes.
+    pub fn with_inboxes(mut self, inboxes: Inboxes) -> Parts
+        ensures { λ r. ⌜ stateOf r ≡ withInboxes (stateOf self) (inboxesOf inboxes) ⌝ }
+    {
+        let entries = inboxes.entries;
+        let counts = inboxes.counts;
+        self.entries = entries;
+        self.counts = counts;
+        self
     }
 
     pub fn is_configured(self) -> bool

@@ -26,10 +26,11 @@ pub fn close(parts: Parts, handle: u8) -> Done
             errno: errno,
         };
     }
-    let mut after = parts;
+    let mut after = parts.with_inboxes(parts.inboxes().clear(handle));
     after.handles = parts.handles.with(handle, closed());
-    after.inboxes = parts.inboxes.clear(handle);
-    after.traffic = parts.traffic.without_handle(handle);
+    after.queue = parts.queue.orphaned(handle);
+    after.wire = parts.wire.orphaned(handle);
+    after.waits = parts.waits.without_handle(handle);
     Done {
         parts: after,
         errno: 0,

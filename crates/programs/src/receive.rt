@@ -9,6 +9,7 @@ use constants::EBADF;
 use entry::Entry;
 use parts::Parts;
 use parts::check;
+use parts::count_at;
 
 // The parts after the call, its errno, 0 for success, and the entry.
 #[repr(C)]
@@ -24,30 +25,32 @@ fn receive_errno(parts: Parts, handle: u8) -> u32
     check(
         !parts.is_open(handle),
         EBADF,
-        check(parts.inboxes.count(handle) == 0, EAGAIN, 0),
+        check(parts.count(handle) == 0, EAGAIN, 0),
     )
 }
 
-pub fn receive(parts: Parts, handle: u8) -> Received
+pub fn receive(mut parts: Parts, handle: u8) -> Received
     ensures { λ r. ⌜ receivedOf r ≡ doReceive (stateOf parts) handle ⌝ }
     ensures { λ r. ⌜ (r .errno ≢ 0 → r .parts ≡ parts) ⌝ }
 {
     let errno = receive_errno(parts, handle);
-    if errno != 0 {
-        return Received {
-            parts: parts,
-            errno: errno,
-            entry: Entry::none(),
-        };
+    let mut entry = Entry::none();
+    if errno == 0 {
+        let counts = parts.counts;
+        let n = count_at(counts, handle);
+        let h = handle as usize;
+        let end = 16 * h + n;
+        let mut i = 16 * h;
+        entry = parts.entries[i];
+        while i + 1 < end {
+            parts.entries[i] = parts.entries[i + 1];
+            i += 1;
+        }
+        parts.counts[h] = n - 1;
     }
-    let taken = parts.inboxes.take(handle);
-    let inboxes = taken.inboxes;
-    let entry = taken.entry;
-    let mut after = parts;
-    after.inboxes = inboxes;
     Received {
-        parts: after,
-        errno: 0,
+        parts: parts,
+        errno: errno,
         entry: entry,
     }
 }

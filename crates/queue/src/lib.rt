@@ -17,13 +17,6 @@ pub struct Queue {
     count: usize,
 }
 
-// A queue, and the transmission that was its head.
-#[repr(C)]
-pub struct Dequeued {
-    pub queue: Queue,
-    pub transmission: Transmission,
-}
-
 impl Queue {
     pub fn empty() -> Queue
         ensures { λ r. ⌜ queueOf r ≡ [] ⌝ }
@@ -47,11 +40,10 @@ impl Queue {
         ensures { λ r. ⌜ queueOf r ≡ put 18 (queueOf self) transmission ⌝ }
     {
         let n = self.count;
-        if 18 <= n {
-            return self;
+        if n < 18 {
+            self.slots[n] = transmission;
+            self.count = n + 1;
         }
-        self.slots[n] = transmission;
-        self.count = n + 1;
         self
     }
 
@@ -75,28 +67,18 @@ impl Queue {
         self.slots[i]
     }
 
-    // The head taken out.
-    pub fn take(mut self) -> Dequeued
-        ensures { λ r. ⌜ (queueOf (r .queue) ≡ drop 1 (queueOf self)) × (r .transmission ≡ headOf (queueOf self)) ⌝ }
+    // Without the head.
+    pub fn without_head(mut self) -> Queue
+        ensures { λ r. ⌜ queueOf r ≡ drop 1 (queueOf self) ⌝ }
     {
-        let head = self.head();
         let n = self.count();
-        if n == 0 {
-            return Dequeued {
-                queue: self,
-                transmission: head,
-            };
-        }
         let mut i = 0;
         while i + 1 < n {
             self.slots[i] = self.slots[i + 1];
             i += 1;
         }
         self.count = i;
-        Dequeued {
-            queue: self,
-            transmission: head,
-        }
+        self
     }
 
     // What is owed to a handle.

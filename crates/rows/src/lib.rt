@@ -39,8 +39,8 @@ pub fn row_of(parts: Parts, handle: u8) -> Row
         return closed_row(handle);
     }
     let shown = parts.handle_at(handle);
-    let entries = parts.inboxes.count(handle) as u32;
-    let owed = parts.traffic.owed(handle).room as u32;
+    let entries = parts.count(handle) as u32;
+    let owed = traffic::owed(parts.queue, parts.wire, parts.waits, handle).room as u32;
     Row {
         number: handle,
         is_open: true,

@@ -5,13 +5,15 @@ use mathlib.Core.Bool.{true, false, cond, not}
 use mathlib.Core.List.{List, [], _∷_}
 use mathlib.Core.Path.{_≡_, refl, sym, ap}
 use native.Mathlib.Omega.{arith}
-use lib.Dec.{leb, ltb}
+use lib.Dec.{leb}
 use lib.ListN.{length, getD}
 use borrow.Author.Tests.{leb-true, leb-false, lt-ltb, le-ltb, le-leb, lt-leb}
+use Rattle.entry.specs.declared.Entry.{Entry}
 use Rattle.lists.specs.Order.{sort, least-over, sort-least}
-use Rattle.lists.specs.Places.{least, least-lt, without, without-past, keep-without}
+use Rattle.lists.specs.Places.{least, least-lt, without-past, keep-without}
 use Rattle.lists.specs.Sums.{keep, keep-none, keep-all}
 use Rattle.lists.specs.Tests.{split, cond-same}
+use Rattle.rules.specs.State.{State, withInboxes, withWaits}
 use Rattle.rules.specs.Time.{overdue}
 use Rattle.wait.specs.Wait.{noWait, leftOf}
 use Rattle.wait.specs.declared.Wait.{Wait}
@@ -83,3 +85,7 @@ due-off ms t e = rw e
 
 pub others-off : (ms : ℕ) (t : Taken) → t .found ≡ false → othersOf ms t ≡ t .rest
 others-off ms t e = rw e
+
+-- the rule's state, from the state with the new inboxes
+pub elapsed-parts : (s u : State) (is js : List (List Entry)) (ws rs : List Wait) → u ≡ withInboxes s is → is ≡ js → ws ≡ rs → withWaits u ws ≡ withInboxes (withWaits s rs) js
+elapsed-parts s u is js ws rs p q r = rw (p, q, r)

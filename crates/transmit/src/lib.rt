@@ -58,9 +58,10 @@ fn new_room(request: Request) -> usize
 fn is_full(parts: Parts, handle: u8, request: Request) -> bool
     ensures { λ r. ⌜ r ≡ isFull (stateOf parts) handle (requestOf request) ⌝ }
 {
-    (18 <= parts.traffic.queue.count())
-        | request.wants_reply() & (4 <= parts.wanted_replies(handle))
-        | (16 < parts.room_taken(handle) + new_room(request))
+    let owed = traffic::owed(parts.queue, parts.wire, parts.waits, handle);
+    (18 <= parts.queue.count())
+        | request.wants_reply() & (4 <= owed.replies)
+        | (16 < parts.count(handle) + owed.room + new_room(request))
 }
 
 // The checks in their order.
@@ -106,41 +107,26 @@ fn transmission(number: u32, handle: u8, request: Request) -> Transmission
     }
 }
 
-pub fn transmit(parts: Parts, handle: u8, request: Request) -> Transmitted
+pub fn transmit(mut parts: Parts, handle: u8, request: Request) -> Transmitted
     ensures { λ r. ⌜ transmittedOf r ≡ doTransmit (stateOf parts) handle (requestOf request) ⌝ }
     ensures { λ r. ⌜ (r .errno ≢ 0 → r .parts ≡ parts) ⌝ }
 {
     let errno = transmit_errno(parts, handle, request);
-    if errno != 0 {
-        return Transmitted {
-            parts: parts,
-            errno: errno,
-            number: 0,
-            tx_status: 0,
-        };
+    let mut number = 0;
+    let mut tx_status = 0;
+    if errno == 0 {
+        number = traffic::next_number(parts.queue, parts.wire, parts.waits, parts.last);
+        parts.last = number;
+        if is_self_poll(parts, request) {
+            tx_status = CEC_TX_STATUS_NACK;
+        } else {
+            parts.queue = parts.queue.put(transmission(number, handle, request));
+        }
     }
-    let number = parts.traffic.next_number(parts.last);
-    let mut after = parts;
-    after.last = number;
-    if is_self_poll(parts, request) {
-        return Transmitted {
-            parts: after,
-            errno: 0,
-            number: number,
-            tx_status: CEC_TX_STATUS_NACK,
-        };
-    }
-    let queue = parts
-        .traffic
-        .queue
-        .put(transmission(number, handle, request));
-    let mut traffic = parts.traffic;
-    traffic.queue = queue;
-    after.traffic = traffic;
     Transmitted {
-        parts: after,
-        errno: 0,
+        parts: parts,
+        errno: errno,
         number: number,
-        tx_status: 0,
+        tx_status: tx_status,
     }
 }

@@ -60,11 +60,10 @@ impl Waits {
         ensures { λ r. ⌜ waitsOf r ≡ put 32 (waitsOf self) wait ⌝ }
     {
         let n = self.count;
-        if 32 <= n {
-            return self;
+        if n < 32 {
+            self.slots[n] = wait;
+            self.count = n + 1;
         }
-        self.slots[n] = wait;
-        self.count = n + 1;
         self
     }
 

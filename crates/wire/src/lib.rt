@@ -17,13 +17,6 @@ pub struct Wire {
     slot: Transmission,
 }
 
-// A wire, and the transmission that was on it.
-#[repr(C)]
-pub struct Sent {
-    pub wire: Wire,
-    pub transmission: Transmission,
-}
-
 impl Wire {
     pub fn idle() -> Wire
         ensures { λ r. ⌜ wireOf r ≡ [] ⌝ }
@@ -65,15 +58,11 @@ impl Wire {
     }
 
     // The transmission taken off.
-    pub fn take(mut self) -> Sent
-        ensures { λ r. ⌜ (wireOf (r .wire) ≡ drop 1 (wireOf self)) × (r .transmission ≡ headOf (wireOf self)) ⌝ }
+    pub fn without_head(mut self) -> Wire
+        ensures { λ r. ⌜ wireOf r ≡ drop 1 (wireOf self) ⌝ }
     {
-        let head = self.head();
         self.busy = false;
-        Sent {
-            wire: self,
-            transmission: head,
-        }
+        self
     }
 
     // What is owed to a handle.

@@ -3,35 +3,39 @@ use borrow.Author.Needs.{needs}
 use Rattle.transmit.proofs.is_full.Statement.{statement}
 use Rattle.transmit.proofs.is_full.Tie as tie
 
+owed-requires : tie.Need-owed-requires
+owed-requires c κs = search needs
+
 count-requires : tie.Need-count-requires
 count-requires c κs = search needs
 
 wants-reply-requires : tie.Need-wants-reply-requires
 wants-reply-requires c κs = search needs
 
-wanted-replies-requires : tie.Need-wanted-replies-requires
-wanted-replies-requires c κs = search needs
-
-room-taken-requires : tie.Need-room-taken-requires
-room-taken-requires c κs = search needs
-
-new-room-requires : tie.Need-new-room-requires
-new-room-requires c κs = search needs
+count-requires-2 : tie.Need-count-requires-2
+count-requires-2 c κs = search needs
 
 add-result : tie.Need-add-result
 add-result c = search needs
 
+new-room-requires : tie.Need-new-room-requires
+new-room-requires c κs = search needs
+
+add-result-2 : tie.Need-add-result-2
+add-result-2 c = search needs
+
 returns : tie.Need-returns
-returns c = rw (c .new-room .ensures .0, c .before .room-taken .ensures .0, c .before .before .wanted-replies .ensures, c .before .before .before .wants-reply .ensures, c .before .before .before .before .count .ensures .0)
+returns c = rw (c .new-room .ensures .0, c .before .before .count2 .ensures .0, c .before .before .before .before .wants-reply .ensures, c .before .before .before .before .before .count .ensures .0, c .before .before .before .before .before .before .owed .ensures .0 .0, c .before .before .before .before .before .before .owed .ensures .0 .1)
 
 pub is-full-spec : {M : Type 1} → statement M
 is-full-spec =
     tie.close
     (tie.spec
+    owed-requires
     count-requires
     wants-reply-requires
-    wanted-replies-requires
-    room-taken-requires
-    new-room-requires
+    count-requires-2
     add-result
+    new-room-requires
+    add-result-2
     returns)

@@ -23,11 +23,10 @@ abort-waits-requires c κs = search needs
 returns : tie.Need-returns
 returns c =
     let a = c .before .before .before .args in
-    let t = a .traffic in
-    let pending = delivered-append (λ x. x .owner) abortedResult (inboxesOf (a .inboxes)) (wireOf (t .wire)) (queueOf (t .queue)) in
+    let pending = delivered-append (λ x. x .owner) abortedResult (inboxesOf (a .inboxes)) (wireOf (a .wire)) (queueOf (a .queue)) in
     c .abort-waits .ensures
-    ∙ ap (λ (is : List (List Entry)). waitsAborted is (waitsOf (t .waits)))
-    (c .before .abort-queue .ensures ∙ ap (λ (is : List (List Entry)). transmitsAborted is (queueOf (t .queue))) (c .before .before .abort-wire .ensures) ∙ sym pending)
+    ∙ ap (λ (is : List (List Entry)). waitsAborted is (waitsOf (a .waits)))
+    (c .before .abort-queue .ensures ∙ ap (λ (is : List (List Entry)). transmitsAborted is (queueOf (a .queue))) (c .before .before .abort-wire .ensures) ∙ sym pending)
 
 pub abort-spec : {M : Type 1} → statement M
 abort-spec =

@@ -1,18 +1,34 @@
 -- `configuration::unconfigure::unconfigure` meets its contract. Assumes nothing.
-use mathlib.Core.Path.{ap}
+use mathlib.Core.Path.{ap, _∙_}
 use borrow.Author.Needs.{needs}
 use Rattle.configuration.proofs.Aborted.{unconfigured}
+use Rattle.configuration.specs.Aborted.{transmitsAborted, waitsAborted}
+use Rattle.inbox.specs.Inboxes.{inboxesOf}
+use Rattle.inbox.specs.declared.Inboxes.{Inboxes}
 use Rattle.parts.specs.Parts.{stateOf}
 use Rattle.rules.specs.Call.{Answer, finish}
+use Rattle.rules.specs.Owed.{pending}
 use Rattle.rules.specs.Unconfigure.{doUnconfigure}
 use Rattle.configuration.proofs.unconfigure.unconfigure.Statement.{statement}
 use Rattle.configuration.proofs.unconfigure.unconfigure.Tie as tie
 
+inboxes-requires : tie.Need-inboxes-requires
+inboxes-requires c κs = search needs
+
 abort-requires : tie.Need-abort-requires
 abort-requires c κs = search needs
 
-none-requires : tie.Need-none-requires
-none-requires c κs = search needs
+with-inboxes-requires : tie.Need-with-inboxes-requires
+with-inboxes-requires c κs = search needs
+
+empty-requires : tie.Need-empty-requires
+empty-requires c κs = search needs
+
+idle-requires : tie.Need-idle-requires
+idle-requires c κs = search needs
+
+empty-requires-2 : tie.Need-empty-requires-2
+empty-requires-2 c κs = search needs
 
 no-settings-requires : tie.Need-no-settings-requires
 no-settings-requires c κs = search needs
@@ -23,11 +39,21 @@ none-noted-requires c κs = search needs
 returns : tie.Need-returns
 unfolding doUnconfigure
 returns c =
-    let e = c .before .before .none .ensures in
+    let s = stateOf (c .before .before .before .before .before .before .before .before .args .parts) in
+    let ends = c .before .before .before .before .before .before .abort .ensures ∙ ap (λ (x : Inboxes). waitsAborted (transmitsAborted (inboxesOf x) (pending s)) (s .waits)) (c .before .before .before .before .before .before .before .inboxes .ensures) in
     ap (finish Answer.done)
-    (unconfigured (stateOf (c .before .before .before .before .args .parts)) _ _ _ _ _ _ (c .before .before .before .abort .ensures) (e .0) (e .1) (e .2) (c .before .no-settings .ensures) (c .none-noted .ensures))
+    (unconfigured s (stateOf (c .before .before .before .before .before .with-inboxes .result)) _ _ _ _ _ _ (c .before .before .before .before .before .with-inboxes .ensures) ends (c .before .before .before .before .empty .ensures) (c .before .before .before .idle .ensures) (c .before .before .empty2 .ensures) (c .before .no-settings .ensures) (c .none-noted .ensures))
 
 pub unconfigure-spec : {M : Type 1} → statement M
 unconfigure-spec =
     tie.close
-    (tie.spec abort-requires none-requires no-settings-requires none-noted-requires returns)
+    (tie.spec
+    inboxes-requires
+    abort-requires
+    with-inboxes-requires
+    empty-requires
+    idle-requires
+    empty-requires-2
+    no-settings-requires
+    none-noted-requires
+    returns)

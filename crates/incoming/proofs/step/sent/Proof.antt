@@ -10,7 +10,7 @@ put-requires : tie.Need-put-requires
 put-requires c κs = search needs
 
 returns : tie.Need-returns
-returns c = rw (c .before .before .before .if1 .taken, c .put .ensures, c .before .ownerless .ensures)
+returns c = rw (c .before .before .if1 .taken, c .put .ensures, c .before .ownerless .ensures)
 
 returns-2 : tie.Need-returns-2
 returns-2 c = rw (c .if1 .left)

@@ -6,11 +6,6 @@ use Rattle.queue.proofs.Slots.{queue-long}
 use Rattle.queue.proofs.Queue.put.Statement.{statement}
 use Rattle.queue.proofs.Queue.put.Tie as tie
 
-returns : tie.Need-returns
-returns c =
-    let a = c .before .args in
-    put-full 18 (a .t1 .count) (a .t1 .slots) (a .transmission) (queue-long (a .t1) _ (c .before .good .0)) (omega arith)
-
 mul-transmission : tie.Need-mul-transmission
 mul-transmission c = search needs
 
@@ -20,11 +15,16 @@ element-set-from-transmission c = search needs
 add-self : tie.Need-add-self
 add-self c = search needs
 
-returns-2 : tie.Need-returns-2
-returns-2 c =
+returns : tie.Need-returns
+returns c =
     let a = c .before .args in
     put-room 18 (a .t1 .count) (a .t1 .slots) (a .transmission) (queue-long (a .t1) _ (c .before .good .0)) (omega arith)
 
+returns-2 : tie.Need-returns-2
+returns-2 c =
+    let a = c .before .args in
+    put-full 18 (a .t1 .count) (a .t1 .slots) (a .transmission) (queue-long (a .t1) _ (c .before .good .0)) (omega arith)
+
 pub put-spec : {M : Type 1} → statement M
 put-spec =
-    tie.close (tie.spec returns mul-transmission element-set-from-transmission add-self returns-2)
+    tie.close (tie.spec mul-transmission element-set-from-transmission add-self returns returns-2)

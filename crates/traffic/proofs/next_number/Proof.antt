@@ -1,4 +1,4 @@
--- `traffic::Traffic::next_number` meets its contract. Assumes nothing.
+-- `traffic::next_number` meets its contract. Assumes nothing.
 use Prim.Native.Nat.{_≤_, _+_, _-_}
 use mathlib.Core.Bool.{true, false}
 use mathlib.Core.Path.{_≡_, sym, _∙_}
@@ -8,17 +8,18 @@ use borrow.Author.Tests.{not-true, not-false}
 use Rattle.queue.specs.Queue.{queueOf}
 use Rattle.rules.specs.Number.{candidate, firstFree, numberAfter}
 use Rattle.rules.specs.Owed.{isTaken}
-use Rattle.traffic.specs.Traffic.{pendingOf, waitingOf}
-use Rattle.wire.specs.Wire.{wireOf}
 use Rattle.traffic.proofs.Search.{candidate-next, search-start, search-stop, search-on, search-end}
-use Rattle.traffic.proofs.Traffic.next_number.Statement.{statement}
-use Rattle.traffic.proofs.Traffic.next_number.Tie as tie
+use Rattle.traffic.specs.Traffic.{pendingOf}
+use Rattle.waits.specs.Waits.{waitsOf}
+use Rattle.wire.specs.Wire.{wireOf}
+use Rattle.traffic.proofs.next_number.Statement.{statement}
+use Rattle.traffic.proofs.next_number.Tie as tie
 
 abbrev Inv-loop : tie.InvT-loop
-Inv-loop self last tries number₀ i₀ number i = (i ≤ tries) × (number ≡ candidate last i) × (numberAfter (pendingOf self) (waitingOf self) last ≡ firstFree (isTaken (pendingOf self) (waitingOf self)) last (tries - i) i)
+Inv-loop queue wire waits last tries number₀ i₀ number i = (i ≤ tries) × (number ≡ candidate last i) × (numberAfter (pendingOf wire queue) (waitsOf waits) last ≡ firstFree (isTaken (pendingOf wire queue) (waitsOf waits)) last (tries - i) i)
 
 abbrev μ-loop : tie.MeasureT-loop
-μ-loop self last tries number₀ i₀ number i = tries - i
+μ-loop queue wire waits last tries number₀ i₀ number i = tries - i
 
 count-requires : tie.Need-count-requires Inv-loop μ-loop
 count-requires c κs = search needs
@@ -40,10 +41,10 @@ next-after-requires c κs = search needs
 
 loop-holds : tie.Need-loop-holds Inv-loop μ-loop
 loop-holds c =
-    let s = c .before .before .before .before .args .self in (
+    let a = c .before .before .before .before .args in (
       omega arith,
       c .next-after .ensures,
-      search-start (wireOf (s .wire)) (queueOf (s .queue)) (waitingOf s) (c .before .before .before .before .args .last) _ _ _ (c .before .before .before .count .ensures .0) (c .before .before .count2 .ensures .0) (c .before .count3 .ensures .0),
+      search-start (wireOf (a .wire)) (queueOf (a .queue)) (waitsOf (a .waits)) (a .last) _ _ _ (c .before .before .before .count .ensures .0) (c .before .before .count2 .ensures .0) (c .before .count3 .ensures .0),
     )
 
 is-live-requires : tie.Need-is-live-requires Inv-loop μ-loop
@@ -51,13 +52,12 @@ is-live-requires c κs = search needs
 
 returns : tie.Need-returns Inv-loop μ-loop
 returns c =
-    let s = c .before .before .before .before .before .before .before .before .args .self in
-    let last = c .before .before .before .before .before .before .before .before .args .last in
+    let a = c .before .before .before .before .before .before .before .before .args in
     let l = c .before .before .before .loop in
-    let live = isTaken (pendingOf s) (waitingOf s) in
-    let e : live (candidate last (l .i)) ≡ false = rw (← l .inv .1) (sym (c .before .is-live .ensures) ∙ not-true _ (c .if1 .taken)) in
+    let live = isTaken (pendingOf (a .wire) (a .queue)) (waitsOf (a .waits)) in
+    let e : live (candidate (a .last) (l .i)) ≡ false = rw (← l .inv .1) (sym (c .before .is-live .ensures) ∙ not-true _ (c .if1 .taken)) in
     let tries = c .before .before .before .before .before .before .before .count .result + c .before .before .before .before .before .before .count2 .result + c .before .before .before .before .before .count3 .result in
-    l .inv .1 ∙ sym (l .inv .2 ∙ search-stop live last (tries - l .i) (l .i) e)
+    l .inv .1 ∙ sym (l .inv .2 ∙ search-stop live (a .last) (tries - l .i) (l .i) e)
 
 next-after-requires-2 : tie.Need-next-after-requires-2 Inv-loop μ-loop
 next-after-requires-2 c κs = search needs
@@ -70,24 +70,22 @@ loop-less c = search needs
 
 loop-again : tie.Need-loop-again Inv-loop μ-loop
 loop-again c =
-    let s = c .before .before .before .before .before .before .before .before .before .args .self in
-    let last = c .before .before .before .before .before .before .before .before .before .args .last in
+    let a = c .before .before .before .before .before .before .before .before .before .args in
     let l = c .before .before .before .before .loop in
-    let live = isTaken (pendingOf s) (waitingOf s) in
-    let e : live (candidate last (l .i)) ≡ true = rw (← l .inv .1) (sym (c .before .before .is-live .ensures) ∙ not-false _ (c .before .if1 .left)) in (
+    let live = isTaken (pendingOf (a .wire) (a .queue)) (waitsOf (a .waits)) in
+    let e : live (candidate (a .last) (l .i)) ≡ true = rw (← l .inv .1) (sym (c .before .before .is-live .ensures) ∙ not-false _ (c .before .if1 .left)) in (
       omega arith,
-      c .next-after2 .ensures ∙ rw (l .inv .1) (candidate-next last (l .i)),
-      l .inv .2 ∙ search-on live last _ (l .i) (omega arith) e,
+      c .next-after2 .ensures ∙ rw (l .inv .1) (candidate-next (a .last) (l .i)),
+      l .inv .2 ∙ search-on live (a .last) _ (l .i) (omega arith) e,
     )
 
 returns-2 : tie.Need-returns-2 Inv-loop μ-loop
 returns-2 c =
-    let s = c .before .before .before .before .before .before .args .self in
-    let last = c .before .before .before .before .before .before .args .last in
+    let a = c .before .before .before .before .before .before .args in
     let l = c .before .loop in
-    let live = isTaken (pendingOf s) (waitingOf s) in
+    let live = isTaken (pendingOf (a .wire) (a .queue)) (waitsOf (a .waits)) in
     let tries = c .before .before .before .before .before .count .result + c .before .before .before .before .count2 .result + c .before .before .before .count3 .result in
-    l .inv .1 ∙ sym (l .inv .2 ∙ search-end live last (tries - l .i) (l .i) (omega arith))
+    l .inv .1 ∙ sym (l .inv .2 ∙ search-end live (a .last) (tries - l .i) (l .i) (omega arith))
 
 pub next-number-spec : {M : Type 1} → statement M
 next-number-spec =

@@ -1,12 +1,12 @@
--- `traffic::Traffic::is_live` meets its contract. Assumes nothing.
+-- `traffic::is_live` meets its contract. Assumes nothing.
 use borrow.Author.Needs.{needs}
 use Rattle.lists.specs.Sums.{any-append}
 use Rattle.queue.specs.Queue.{queueOf}
 use Rattle.rules.specs.Owed.{isTaken}
 use Rattle.transmission.specs.Transmission.{numbered}
 use Rattle.wire.specs.Wire.{wireOf}
-use Rattle.traffic.proofs.Traffic.is_live.Statement.{statement}
-use Rattle.traffic.proofs.Traffic.is_live.Tie as tie
+use Rattle.traffic.proofs.is_live.Statement.{statement}
+use Rattle.traffic.proofs.is_live.Tie as tie
 
 has-number-requires : tie.Need-has-number-requires
 has-number-requires c κs = search needs
@@ -20,9 +20,8 @@ has-number-requires-3 c κs = search needs
 returns : tie.Need-returns
 unfolding isTaken
 returns c =
-    let s = c .before .before .before .args .self in
-    let n = c .before .before .before .args .number in
-    rw (any-append (numbered n) (wireOf (s .wire)) (queueOf (s .queue)), c .has-number3 .ensures, c .before .has-number2 .ensures, c .before .before .has-number .ensures)
+    let a = c .before .before .before .args in
+    rw (any-append (numbered (a .number)) (wireOf (a .wire)) (queueOf (a .queue)), c .has-number3 .ensures, c .before .has-number2 .ensures, c .before .before .has-number .ensures)
 
 pub is-live-spec : {M : Type 1} → statement M
 is-live-spec =
