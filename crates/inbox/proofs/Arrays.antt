@@ -3,13 +3,13 @@
 use mathlib.Core.List.{List}
 use mathlib.Core.Path.{_≡_, _∙_}
 use lib.ListN.{length}
-use mir.Val.{Val}
 use denote.Laws.{Is}
-use Rattle.lists.specs.Blocks.{length-parts}
-use Rattle.lists.specs.Elements.{unmapped}
+use mir.Val.{Val}
+use Rattle.inbox.proofs.Inboxes as the
 use Rattle.inbox.specs.Inboxes.{inboxesOf}
 use Rattle.inbox.specs.declared.Inboxes.{Inboxes}
-use Rattle.inbox.proofs.Inboxes as the
+use Rattle.lists.specs.Blocks.{length-parts}
+use Rattle.lists.specs.Elements.{unmapped}
 
 pub entries-long : (b : Inboxes) (vs : List Val) → Is the.the-row b vs → length (b .entries) ≡ 128
 entries-long b vs p = unmapped _ (b .entries) 128 (p .1 .1 .0 .1 .0 .1)

@@ -7,12 +7,11 @@ use native.Mathlib.Numerals.{add-one}
 use lib.ListN.{length, getD, set, take, drop}
 use lib.Seq.{set-out, set-getD, take-suc}
 use borrow.Author.Tests.{lt-ltb, le-ltb}
-use Rattle.lists.specs.Blocks.{parts}
-use Rattle.lists.specs.Places.{drop-empty}
-use Rattle.lists.specs.Vector.{put}
 use Rattle.entry.specs.Entry.{noEntry}
 use Rattle.entry.specs.declared.Entry.{Entry}
 use Rattle.inbox.specs.declared.Inboxes.{Inboxes}
+use Rattle.lists.specs.Blocks.{parts}
+use Rattle.lists.specs.Vector.{put}
 
 -- the list of eight lists; a count past 16 counts as 16
 abbrev pub inboxesOf : Inboxes → List (List Entry)
@@ -53,9 +52,6 @@ delivered-full is h e b = rw (le-ltb (length (inboxOf is h)) 16 b) (sym (set-get
 
 pub delivered-room : (is : List (List Entry)) (h : ℕ) (e : Entry) → length (inboxOf is h) < 16 → set is h (inboxOf is h ++ (e ∷ [])) ≡ delivered is h e
 delivered-room is h e b = rw (lt-ltb (length (inboxOf is h)) 16 b)
-
-pub taken-none : (is : List (List Entry)) (h : ℕ) → length (inboxOf is h) ≡ 0 → is ≡ oldestTaken is h
-taken-none is h b = rw (← drop-empty (inboxOf is h) b) (sym (set-getD is h []))
 
 module _ {A : Type 0} (owner : A → ℕ) (entry : A → Entry) where
   pub delivered-append : (is : List (List Entry)) (xs ys : List A) → deliveredAll owner entry is (xs ++ ys) ≡ deliveredAll owner entry (deliveredAll owner entry is xs) ys

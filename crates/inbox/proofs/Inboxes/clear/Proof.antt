@@ -4,9 +4,9 @@ use mathlib.Core.Path.{sym}
 use native.Mathlib.Omega.{arith}
 use lib.Seq.{set-out}
 use borrow.Author.Needs.{needs}
-use Rattle.lists.specs.Blocks.{parts-clear}
-use Rattle.inbox.specs.Inboxes.{inboxesOf}
 use Rattle.inbox.proofs.Arrays.{inboxes-long}
+use Rattle.inbox.specs.Inboxes.{inboxesOf}
+use Rattle.lists.specs.Blocks.{parts-clear}
 use Rattle.inbox.proofs.Inboxes.clear.Statement.{statement}
 use Rattle.inbox.proofs.Inboxes.clear.Tie as tie
 

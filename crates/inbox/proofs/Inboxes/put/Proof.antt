@@ -2,9 +2,9 @@
 use mathlib.Core.Path.{refl, _∙_}
 use native.Mathlib.Omega.{arith}
 use borrow.Author.Needs.{needs}
-use Rattle.lists.specs.Blocks.{length-part, parts-put}
-use Rattle.inbox.specs.Inboxes.{inboxesOf, delivered-past, delivered-full, delivered-room}
 use Rattle.inbox.proofs.Arrays.{entries-long, inboxes-long}
+use Rattle.inbox.specs.Inboxes.{inboxesOf, delivered-past, delivered-full, delivered-room}
+use Rattle.lists.specs.Blocks.{length-part, parts-put}
 use Rattle.inbox.proofs.Inboxes.put.Statement.{statement}
 use Rattle.inbox.proofs.Inboxes.put.Tie as tie
 
