@@ -161,10 +161,6 @@ module _ {A : Type 0} where
   without-first [] = refl
   without-first (x ∷ l) = refl
 
-  pub drop-empty : (l : List A) → length l ≡ 0 → l ≡ drop 1 l
-  drop-empty [] e = refl
-  drop-empty (x ∷ l) e = absurd (omega arith)
-
   -- a loop over all elements but the one at h: one more is looked at, or left out
   pub any-others : (p : A → Bool) (l : List A) (h i : ℕ) (d : A) → i < length l
       → any p (without h (take (i + 1) l)) ≡ (any p (without h (take i l)) || not (eqb i h) && p (getD l i d))

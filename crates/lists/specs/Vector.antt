@@ -9,9 +9,9 @@ use native.Mathlib.Nat.{add-zero}
 use native.Mathlib.Numerals.{add-one}
 use native.Mathlib.Omega.{arith}
 use lib.Dec.{ltb}
-use lib.ListN.{length, getD, set, take, drop, length-map, length-take, length-append, length-set, length-drop, take-append-drop, drop-of-length-le, replicate, length-replicate, replicate-append-replicate}
+use lib.ListN.{length, getD, set, take, drop, length-map, length-take, length-append, length-set, take-append-drop, drop-of-length-le, replicate, length-replicate, replicate-append-replicate}
 use lib.Seq.{take-suc, drop-cons, set-at, getD-at, take-all, take-at, length-take-le, append-snoc, take-suc-set, take-set-le, drop-set-lt, getD-drop, drop-drop, take-append-le, take-take, getD-take, drop-append-le}
-use borrow.Author.Tests.{lt-ltb, le-ltb, ltb-true}
+use borrow.Author.Tests.{lt-ltb, le-ltb}
 use Rattle.lists.specs.Elements.{map-append, getD-past, getD-same-rest, drop-past, drop-take, take-taken, getD-within}
 use Rattle.lists.specs.Places.{first, first-here, first-none, without, without-append, without-last, length-without, take-without, drop-without}
 use Rattle.lists.specs.Sums.{sum, sum-next, any, any-next, any-taken, keep, keep-append}
@@ -30,12 +30,6 @@ module _ {A : Type 0} where
 
   pub put-full : (k n : ℕ) (l : List A) (x : A) → length l ≡ k → k ≤ n → take n l ≡ put k (take n l) x
   put-full k n l x e h = rw (length-over n k l e h, le-ltb k k (omega arith))
-
-  pub length-put : (k : ℕ) (l : List A) (x : A) → length l ≤ k → length (put k l x) ≤ k
-  length-put k l x h =
-      split (ltb (length l) k)
-      (λ e. rw e (omega (arith, length-append l (x ∷ []), ltb-true)))
-      (λ e. rw e h)
 
 -- a loop over the n elements of the list: turn i looks at slot i
 module _ {A : Type 0} (l : List A) (c n : ℕ) (e : n ≡ length (take c l)) where
@@ -80,9 +74,6 @@ module _ {A : Type 0} where
   length-shift-head : (i j : ℕ) (l : List A) → i ≤ j → j < length l → length (without i (take (suc j) l)) ≡ j
   length-shift-head i j l a b = omega (arith, length-without i (take (suc j) l) (omega (arith, length-take-le (suc j) l b)), length-take-le (suc j) l b)
 
-  pub length-shifted : (i j : ℕ) (l : List A) → i ≤ j → j < length l → length (shifted i j l) ≡ length l
-  length-shifted i j l a b = omega (arith, length-append (without i (take (suc j) l)) (drop j l), length-shift-head i j l a b, length-drop j l)
-
   pub shift-start : (i : ℕ) (l : List A) → i < length l → l ≡ shifted i i l
   shift-start i l h = rw (without-last i l h, take-append-drop)
 
@@ -124,9 +115,6 @@ module _ {A : Type 0} (f : A → A) where
   -- each element changed: those before place j
   abbrev pub mapped : ℕ → List A → List A
   mapped j l = map f (take j l) ++ drop j l
-
-  pub length-mapped : (j : ℕ) (l : List A) → length (mapped j l) ≡ length l
-  length-mapped j l = length-append (map f (take j l)) (drop j l) ∙ omega (arith, length-map (take j l) f, length-take j l, length-drop j l)
 
   pub mapped-next : (j : ℕ) (l : List A) (d : A) → j < length l → set (mapped j l) j (f (getD (mapped j l) j d)) ≡ mapped (j + 1) l
   mapped-next j l d h =

@@ -38,6 +38,3 @@ roomTaken s h = length (inboxOf (s .inboxes) h) + owedRoom s h
 -- "every number still queued, on the wire or waiting"
 unfoldable pub isTaken : List Transmission → List Wait → ℕ → Bool
 isTaken ts ws n = any (numbered n) ts || any (Wait.numbered n) ws
-
-abbrev pub isLive : State → ℕ → Bool
-isLive s n = isTaken (pending s) (s .waits) n
