@@ -83,7 +83,7 @@ impl Adapter {
         ensures { λ r. ⌜ openedOf r ≡ step (stateOf self) (callOpen privileged) ⌝ }
         ensures { λ r. ⌜ (r .errno ≢ 0 → r .adapter ≡ self) ⌝ }
     {
-        let answer = programs::open::open(self.parts, privileged);
+        let answer = open::open(self.parts, privileged);
         let parts = answer.parts;
         Opened {
             adapter: Adapter { parts: parts },
@@ -96,14 +96,14 @@ impl Adapter {
         ensures { λ r. ⌜ doneOf r ≡ step (stateOf self) (callClose handle) ⌝ }
         ensures { λ r. ⌜ (r .errno ≢ 0 → r .adapter ≡ self) ⌝ }
     {
-        of_done(programs::close::close(self.parts, handle))
+        of_done(close::close(self.parts, handle))
     }
 
     pub fn mode(self, handle: u8, mode: u32) -> Done
         ensures { λ r. ⌜ doneOf r ≡ step (stateOf self) (callMode handle mode) ⌝ }
         ensures { λ r. ⌜ (r .errno ≢ 0 → r .adapter ≡ self) ⌝ }
     {
-        of_done(programs::mode::mode(self.parts, handle, mode))
+        of_done(set_mode::mode(self.parts, handle, mode))
     }
 
     pub fn transmit(self, handle: u8, request: Request) -> Transmitted
@@ -124,7 +124,7 @@ impl Adapter {
         ensures { λ r. ⌜ receivedOf r ≡ step (stateOf self) (callReceive handle) ⌝ }
         ensures { λ r. ⌜ (r .errno ≢ 0 → r .adapter ≡ self) ⌝ }
     {
-        let answer = programs::receive::receive(self.parts, handle);
+        let answer = receive::receive(self.parts, handle);
         let parts = answer.parts;
         let entry = answer.entry;
         Received {

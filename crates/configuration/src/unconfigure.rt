@@ -97,9 +97,9 @@ pub fn unconfigure(parts: Parts) -> Done
 {
     let inboxes = abort(parts.inboxes(), parts.queue, parts.wire, parts.waits);
     let mut after = parts.with_inboxes(inboxes);
-    after.queue = Queue::empty();
+    after.queue = parts.queue.emptied();
     after.wire = Wire::idle();
-    after.waits = Waits::empty();
+    after.waits = parts.waits.emptied();
     after.settings = no_settings();
     let noted = none_noted();
     after.noted = noted;

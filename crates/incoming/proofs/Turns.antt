@@ -1,79 +1,181 @@
--- Steps 3 to 6 of a message from the wire, one after the other.
+-- The six steps of a message from the wire, as the code does them.
 -- Assumes nothing.
-use mathlib.Core.Bool.{Bool, true, false, cond}
-use mathlib.Core.Path.{_≡_, refl, ap, _∙_}
-use Rattle.constants.specs.Kernel.{CEC-OP-ABORT-UNRECOGNIZED-OP}
+use Prim.Native.Nat.{ℕ}
+use mathlib.Core.Bool.{Bool, true, false, cond, not, _&&_, _||_}
+use mathlib.Core.List.{List}
+use mathlib.Core.Path.{_≡_, refl, sym, ap, _∙_}
+use lib.Dec.{eqb}
+use Rattle.constants.specs.Kernel.{CEC-MSG-FEATURE-ABORT, CEC-OP-ABORT-UNRECOGNIZED-OP}
+use Rattle.copies.proofs.Turns.{copies-none}
 use Rattle.copies.specs.Kinds.{getsCopies}
-use Rattle.core.specs.Work.{messageOf, abortOf, workOf}
+use Rattle.core.specs.Work.{messageOf, abortOf}
 use Rattle.entry.specs.Entry.{messageCopy}
 use Rattle.entry.specs.declared.Entry.{Entry}
-use Rattle.incoming.proofs.Alike.{Alike, alike-trans, replied-alike, notes-alike, answers-alike, followed-alike}
+use Rattle.handle.specs.declared.Handle.{Handle}
+use Rattle.incoming.proofs.Alike.{Alike, alike-trans, replied-alike, notes-alike, answers-alike, followed-alike, copies-alike}
 use Rattle.incoming.proofs.Copied.{copies-waits, followers-same}
-use Rattle.incoming.specs.Steps.{followerKind, notedIn, putInto}
+use Rattle.incoming.proofs.Receivers.{no-followers, nobody-copies, receivers-copies}
+use Rattle.incoming.specs.Steps.{followerKind, goesOn, notedAt, receiversOf}
+use Rattle.incoming.specs.Work.{chosenFor, toDoOf}
+use Rattle.incoming.specs.declared.ToDo.{ToDo}
+use Rattle.lists.specs.Places.{first, without}
+use Rattle.lists.specs.Sums.{any}
+use Rattle.lists.specs.Tests.{clash, cond-same, split}
+use Rattle.lists.specs.Vector.{put}
+use Rattle.message.specs.Message.{destination, opcode}
 use Rattle.message.specs.declared.Message.{Message}
-use Rattle.rules.specs.Core.{answers, coreAnswer, notes, sends}
+use Rattle.rules.specs.Core.{answers, coreAnswer, isDirected, isNoted, isRegistered, notes, sends}
 use Rattle.rules.specs.Deliver.{copies, deliver}
-use Rattle.rules.specs.Handles.{inRole, someone, isExclusiveFollower, isFollower, isPassthrough}
+use Rattle.rules.specs.Handles.{inRole, isConfigured, isHere, someone, isExclusiveFollower, isFollower, isPassthrough}
 use Rattle.rules.specs.Incoming.{followed, handled, heard, monitors, refusedMessage, replied, replyEntry, stops}
-use Rattle.rules.specs.State.{State, withWaits}
-use Rattle.steps.specs.Steps.{chosenOf}
+use Rattle.rules.specs.State.{State, withNoted, withQueue, withWaits}
 use Rattle.steps.specs.declared.Chosen.{Chosen}
-use Rattle.waits.specs.Waits.{Taken, matchTaken}
+use Rattle.transmission.specs.Transmission.{ownerless}
+use Rattle.wait.specs.Wait.{answeredBy}
+use Rattle.waits.specs.Waits.{Taken, matchTaken, takenAt}
 
-pub when-taken : (b : Bool) (x y z : State) → b ≡ true → z ≡ x → z ≡ cond b x y
-when-taken b x y z e q = rw e q
+-- what `rules: sends` does, with a message
+abbrev putInto : State → Message → State
+putInto s m = cond (s .capabilities .transmit) (withQueue s (put 18 (s .queue) (ownerless m))) s
 
-pub when-left : (b : Bool) (x y z : State) → b ≡ false → z ≡ y → z ≡ cond b x y
-when-left b x y z e q = rw e q
+-- a change that is made if a test holds
+abbrev when : Bool → (State → State) → State → State
+when b f s = cond b (f s) s
 
--- what is to be done with a message, from a state and the wait that it ends
-abbrev pub toDo : State → Taken → Message → Chosen
-toDo s t m = chosenOf (s .handles) (workOf (s .settings) m) (t .found) (t .wait .«to_followers») m
+-- the core sends at most once, and before the copies: with an answer there are none, and with a Feature Abort nobody gets one
+module _ (x y : Message) (kind : ℕ) (e : Entry) where
+  abbrev inOrder : Bool → Bool → Bool → State → State
+  inOrder answered aborts copied s = when aborts (λ z. putInto z y) (when copied (copies (inRole (getsCopies kind)) e) (when answered (λ z. putInto z x) s))
 
--- a message that stops after the monitors' copies, and one that does not
-pub heard-stopped : (s : State) (m : Message) (c : State) → c ≡ copies (inRole (monitors s m)) (messageCopy m) s → stops s m ≡ true → c ≡ heard s m
-unfolding heard
-heard-stopped s m c q e = rw e q
+  abbrev sentFirst : Bool → Bool → State → State
+  sentFirst answered aborts s = cond ((answered || aborts) && s .capabilities .transmit) (withQueue s (put 18 (s .queue) (ownerless (cond aborts y x)))) s
 
-pub heard-on : (s : State) (m : Message) (c r : State) → c ≡ copies (inRole (monitors s m)) (messageCopy m) s → stops s m ≡ false → r ≡ handled c (matchTaken m (c .waits)) m → r ≡ heard s m
-unfolding heard
-heard-on s m c r q e h = rw e (h ∙ rw (q, copies-waits (inRole (monitors s m)) (messageCopy m) s))
+  sent-handles : (answered aborts : Bool) (s : State) → sentFirst answered aborts s .handles ≡ s .handles
+  sent-handles answered aborts s = split ((answered || aborts) && s .capabilities .transmit) (λ q. rw q) (λ q. rw q)
 
+  none-copied : (s : State) → any (inRole (getsCopies kind)) (s .handles) ≡ false → copies (inRole (getsCopies kind)) e s ≡ s
+  none-copied s q = sym (copies-none (inRole (getsCopies kind)) e s refl q)
+
+  sent-in-order : (answered aborts copied : Bool) (s : State)
+      → (answered ≡ true → (aborts ≡ false) × (copied ≡ false))
+      → (aborts ≡ true → any (inRole (getsCopies kind)) (s .handles) ≡ false)
+      → when copied (copies (inRole (getsCopies kind)) e) (sentFirst answered aborts s) ≡ inOrder answered aborts copied s
+  sent-in-order true aborts copied s one none = rw (one refl .0, one refl .1)
+  sent-in-order false true copied s one none =
+      rw
+      (none-copied (sentFirst false true s) (rw (sent-handles false true s) (none refl)), none-copied s (none refl), cond-same copied (sentFirst false true s), cond-same copied s)
+  sent-in-order false false copied s one none = refl
+
+alone : (found follower answered noted d r o : Bool) → (not found && not follower && not (answered || noted) && d && r && o) ≡ true → (answered ≡ false) × (follower ≡ false)
+alone true follower answered noted d r o e = clash e refl
+alone false true answered noted d r o e = clash e refl
+alone false false true noted d r o e = clash e refl
+alone false false false noted d r o e = (refl, refl)
+
+-- what is to be done, done
+abbrev pub doReply : ToDo → Message → State → State
+doReply x m s = cond (x .replies) (deliver (withWaits s (without (x .wait) (s .waits))) (x .owner) (replyEntry (x .number) m)) s
+
+abbrev pub doNote : ToDo → Message → State → State
+doNote x m s = cond (x .notes) (withNoted s (notedAt (s .noted) m)) s
+
+abbrev pub doSend : ToDo → State → State
+doSend x s = cond (x .sends) (withQueue s (put 18 (s .queue) (ownerless (x .answer)))) s
+
+abbrev pub doCopies : ToDo → Message → State → State
+doCopies x m s = copies (inRole (getsCopies (x .followers))) (messageCopy m) s
+
+abbrev pub doAll : ToDo → Message → State → State
+doAll x m s = doCopies x m (doSend x (doNote x m (doReply x m s)))
+
+-- steps 4 to 6 after the noting, in their order
 module _ (s : State) (t : Taken) (m : Message) where
-  note-step : (a : State) → cond (toDo s t m .notes) (notedIn a m) a ≡ notes a m
-  unfolding notes
-  note-step a = refl
+  abbrev chosen : Chosen
+  chosen = chosenFor s t m
 
-  answer-step : (a : State) → Alike s a → cond (toDo s t m .answers) (putInto a (messageOf (coreAnswer (s .settings) m))) a ≡ answers a m
+  abbrev answer : Message
+  answer = messageOf (coreAnswer (s .settings) m)
+
+  abbrev abort : Message
+  abort = messageOf (abortOf m CEC-OP-ABORT-UNRECOGNIZED-OP)
+
+  abbrev kind : ℕ
+  kind = followerKind (chosen .exclusive)
+
+  answer-step : (a : State) → Alike s a → when (chosen .answers) (λ x. putInto x answer) a ≡ answers a m
   unfolding answers sends
   answer-step a k = rw (k .roles isPassthrough, k .settings)
 
-  copy-step : (a : State) → Alike s a → cond (toDo s t m .copies) (copies (inRole (getsCopies (followerKind (toDo s t m .exclusive)))) (messageCopy m) a) a ≡ followed a t m
+  copy-step : (a : State) → Alike s a → when (chosen .copies) (copies (inRole (getsCopies kind)) (messageCopy m)) a ≡ followed a t m
   copy-step a k =
-      ap (λ (x : State). cond (toDo s t m .copies) x a) (followers-same (someone isExclusiveFollower s) a (messageCopy m) (k .roles isExclusiveFollower)) ∙ rw (k .roles isPassthrough)
+      ap (λ (x : State). cond (chosen .copies) x a) (followers-same (someone isExclusiveFollower s) a (messageCopy m) (k .roles isExclusiveFollower)) ∙ rw (k .roles isPassthrough)
 
-  abort-step : (a : State) → Alike s a → cond (toDo s t m .aborts) (putInto a (messageOf (abortOf m CEC-OP-ABORT-UNRECOGNIZED-OP))) a ≡ refusedMessage a t m
+  abort-step : (a : State) → Alike s a → when (chosen .aborts) (λ x. putInto x abort) a ≡ refusedMessage a t m
   unfolding sends
   abort-step a k = rw (k .roles isPassthrough, k .roles isFollower)
 
-  pub handled-steps : (b c d e : State)
-      → b ≡ cond (toDo s t m .notes) (notedIn (replied s t m) m) (replied s t m)
-      → c ≡ cond (toDo s t m .answers) (putInto b (messageOf (coreAnswer (s .settings) m))) b
-      → d ≡ cond (toDo s t m .copies) (copies (inRole (getsCopies (followerKind (toDo s t m .exclusive)))) (messageCopy m) c) c
-      → e ≡ cond (toDo s t m .aborts) (putInto d (messageOf (abortOf m CEC-OP-ABORT-UNRECOGNIZED-OP))) d
-      → e ≡ handled s t m
-  handled-steps b c d e pb pc pd pe =
-      let a = replied s t m in
-      let qb : b ≡ notes a m = pb ∙ note-step a in
-      let kb : Alike s b = rw qb (alike-trans s a (notes a m) (replied-alike s t m) (notes-alike a m)) in
-      let qc : c ≡ answers b m = pc ∙ answer-step b kb in
-      let kc : Alike s c = rw qc (alike-trans s b (answers b m) kb (answers-alike b m)) in
-      let qd : d ≡ followed c t m = pd ∙ copy-step c kc in
-      let kd : Alike s d = rw qd (alike-trans s c (followed c t m) kc (followed-alike c t m)) in
-      pe
-      ∙ abort-step d kd
-      ∙ ap (λ (x : State). refusedMessage x t m) (qd ∙ ap (λ (x : State). followed x t m) (qc ∙ ap (λ (x : State). answers x m) qb))
+  in-order : (b : State) → Alike s b → inOrder answer abort kind (messageCopy m) (chosen .answers) (chosen .aborts) (chosen .copies) b ≡ refusedMessage (followed (answers b m) t m) t m
+  in-order b k =
+      let kc = alike-trans s b (answers b m) k (answers-alike b m) in
+      let kd = alike-trans s (answers b m) (followed (answers b m) t m) kc (followed-alike (answers b m) t m) in
+      ap (λ (z : State). when (chosen .aborts) (λ x. putInto x abort) (when (chosen .copies) (copies (inRole (getsCopies kind)) (messageCopy m)) z)) (answer-step b k)
+      ∙ ap (λ (z : State). when (chosen .aborts) (λ x. putInto x abort) z) (copy-step (answers b m) kc)
+      ∙ abort-step (followed (answers b m) t m) kd
 
--- a reply, from the state after its entry came
-pub replied-parts : (s u : State) (t : Taken) (m : Message) (e : Entry) → t .found ≡ true → e ≡ replyEntry (t .wait .number) m → u ≡ deliver s (t .wait .owner) e → withWaits u (t .rest) ≡ replied s t m
-replied-parts s u t m e f q p = rw (p, q, f)
+  -- with a Feature Abort there is no answer, and no follower
+  abort-alone : chosen .aborts ≡ true → (chosen .answers ≡ false) × (someone isFollower s ≡ false)
+  abort-alone e =
+      alone (t .found) (someone isFollower s) (chosen .answers) (chosen .notes) (isDirected m) (isRegistered m) (not (eqb (opcode (m .bytes)) CEC-MSG-FEATURE-ABORT)) e
+
+  answer-alone : chosen .answers ≡ true → (chosen .aborts ≡ false) × (chosen .copies ≡ false)
+  answer-alone e = (split (chosen .aborts) (λ q. clash e (abort-alone q .0)) (λ q. q), rw e)
+
+  -- the noting and the reply change neither handles nor capabilities
+  replied-kept : (replied s t m .handles ≡ s .handles) × (replied s t m .capabilities ≡ s .capabilities)
+  replied-kept = split (t .found) (λ q. rw q (refl, refl)) (λ q. rw q (refl, refl))
+
+  noted-kept : (a : State) → (notes a m .handles ≡ a .handles) × (notes a m .capabilities ≡ a .capabilities)
+  unfolding notes
+  noted-kept a = split (isNoted m) (λ q. rw q (refl, refl)) (λ q. rw q (refl, refl))
+
+  sent-steps : (b d : State) → Alike s b → b .handles ≡ s .handles
+      → d ≡ sentFirst answer abort kind (messageCopy m) (chosen .answers) (chosen .aborts) b
+      → copies (inRole (getsCopies (receiversOf (chosen .copies) (s .handles) kind))) (messageCopy m) d ≡ refusedMessage (followed (answers b m) t m) t m
+  sent-steps b d k h q =
+      let e = messageCopy m in
+      let hd : d .handles ≡ s .handles = ap (λ (z : State). z .handles) q ∙ sent-handles answer abort kind e (chosen .answers) (chosen .aborts) b ∙ h in
+      ap (λ (l : List Handle). copies (inRole (getsCopies (receiversOf (chosen .copies) l kind))) e d) (sym hd)
+      ∙ receivers-copies (chosen .copies) kind e d
+      ∙ ap (λ (z : State). when (chosen .copies) (copies (inRole (getsCopies kind)) e) z) q
+      ∙ sent-in-order answer abort kind e (chosen .answers) (chosen .aborts) (chosen .copies) b answer-alone (λ z. rw h (no-followers (chosen .exclusive) (s .handles) (abort-alone z .1)))
+      ∙ in-order b k
+
+pub done-all : (s : State) (on : Bool) (m : Message) → doAll (toDoOf s on m) m s ≡ cond on (handled s (matchTaken m (s .waits)) m) s
+unfolding matchTaken notes
+done-all s false m = sym (nobody-copies 4 (messageCopy m) s refl)
+done-all s true m =
+    let t = takenAt (first (answeredBy m) (s .waits)) (s .waits) in
+    let a = replied s t m in
+    let b = notes a m in
+    let k = alike-trans s a b (replied-alike s t m) (notes-alike a m) in
+    let h = noted-kept s t m a .0 ∙ replied-kept s t m .0 in
+    let c = noted-kept s t m a .1 ∙ replied-kept s t m .1 in
+    sent-steps s t m b (doSend (toDoOf s true m) b) k h (rw c)
+
+-- steps 1 and 2
+not-stops : (a b c : Bool) → (a && not b && c) ≡ not (not a || b || not c)
+not-stops true true c = refl
+not-stops true false true = refl
+not-stops true false false = refl
+not-stops false b c = refl
+
+pub goes-on : (s c : State) (m : Message) → c .settings ≡ s .settings → goesOn c m ≡ not (stops s m)
+goes-on s c m q = rw q (not-stops (isConfigured s) (eqb (m .length) 1) (isHere s (destination (m .bytes))))
+
+pub heard-all : (s c r : State) (m : Message) → c ≡ copies (inRole (monitors s m)) (messageCopy m) s → r ≡ cond (goesOn c m) (handled c (matchTaken m (c .waits)) m) c → r ≡ heard s m
+unfolding heard
+heard-all s c r m q e =
+    let k = copies-alike (inRole (monitors s m)) (messageCopy m) s in
+    let w = copies-waits (inRole (monitors s m)) (messageCopy m) s in
+    let g = goes-on s c m (ap (λ (z : State). z .settings) q ∙ k .settings) in
+    e ∙ split (stops s m) (λ z. rw (g, z) q) (λ z. rw (g, z, q, w))

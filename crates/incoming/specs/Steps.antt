@@ -1,13 +1,17 @@
--- The steps of a message from the wire, as the code takes them (document 01, "A message from the wire").
+-- Tests and changes of a message from the wire, as the code makes them (document 01, "A message from the wire").
 -- Assumes nothing.
 use Prim.Native.Nat.{ℕ, _+_, _*_}
-use mathlib.Core.Bool.{Bool, cond}
+use mathlib.Core.Bool.{Bool, cond, not, _&&_}
+use mathlib.Core.List.{List}
+use lib.Dec.{eqb}
 use lib.ListN.{getD, set}
-use Rattle.lists.specs.Vector.{put}
-use Rattle.message.specs.Message.{initiator}
+use Rattle.copies.specs.Kinds.{getsCopies}
+use Rattle.handle.specs.declared.Handle.{Handle}
+use Rattle.lists.specs.Sums.{any}
+use Rattle.message.specs.Message.{destination, initiator}
 use Rattle.message.specs.declared.Message.{Message}
-use Rattle.rules.specs.State.{State, withNoted, withQueue}
-use Rattle.transmission.specs.Transmission.{ownerless}
+use Rattle.rules.specs.Handles.{inRole, isConfigured, isHere}
+use Rattle.rules.specs.State.{State}
 
 -- kinds of handles that get copies, as `copies` numbers them
 abbrev pub monitorKind : Bool → ℕ
@@ -16,10 +20,14 @@ monitorKind here = cond here 0 1
 abbrev pub followerKind : Bool → ℕ
 followerKind exclusive = cond exclusive 2 3
 
--- what `rules: notes` does with a message that is noted
-abbrev pub notedIn : State → Message → State
-notedIn s m = withNoted s (set (s .noted) (initiator (m .bytes)) (getD (m .bytes) 2 0 * 256 + getD (m .bytes) 3 0))
+-- the kind, or 4, nobody: if a test fails, or no handle is of the kind
+abbrev pub receiversOf : Bool → List Handle → ℕ → ℕ
+receiversOf test hs kind = cond (test && any (inRole (getsCopies kind)) hs) kind 4
 
--- what `rules: sends` does, with a message
-abbrev pub putInto : State → Message → State
-putInto s m = cond (s .capabilities .transmit) (withQueue s (put 18 (s .queue) (ownerless m))) s
+-- not `rules: stops`
+abbrev pub goesOn : State → Message → Bool
+goesOn s m = isConfigured s && not (eqb (m .length) 1) && isHere s (destination (m .bytes))
+
+-- the noted addresses after `rules: notes` with a message that is noted
+abbrev pub notedAt : List ℕ → Message → List ℕ
+notedAt noted m = set noted (initiator (m .bytes)) (getD (m .bytes) 2 0 * 256 + getD (m .bytes) 3 0)

@@ -3,9 +3,9 @@ ghost use mathlib.Core.Logic.{_≢_};
 ghost use mathlib.Core.Path.{_≡_};
 ghost use Rattle.parts.specs.Parts.{stateOf, doneOf};
 ghost use Rattle.rules.specs.Handles.{isHere};
-ghost use Rattle.rules.specs.Incoming.{incomingRefusal, stops, handled, heard, doMessage};
-ghost use Rattle.waits.specs.Waits.{matchTaken};
-ghost use Rattle.incoming.specs.Steps.{monitorKind, followerKind};
+ghost use Rattle.rules.specs.Incoming.{incomingRefusal, doMessage};
+ghost use Rattle.incoming.specs.Steps.{monitorKind, followerKind, goesOn};
+ghost use Rattle.incoming.specs.Work.{toDoOf};
 
 mod step;
 
@@ -15,11 +15,26 @@ use copies::EXCLUSIVE_FOLLOWER;
 use copies::FOLLOWERS;
 use copies::MONITORS;
 use copies::MONITORS_OF_ALL;
+use copies::NOBODY;
 use entry::Entry;
 use message::Message;
 use parts::Done;
 use parts::Parts;
 use parts::check;
+use parts::count_at;
+use transmission::Transmission;
+
+// What is to be done in steps 3 to 6: whether the wait at a place ends with a reply, whether an address is noted, whether the core sends a message, and who gets copies.
+struct ToDo {
+    replies: bool,
+    wait: usize,
+    owner: u8,
+    number: u32,
+    notes: bool,
+    sends: bool,
+    answer: Message,
+    followers: u8,
+}
 
 fn message_errno(length: u8) -> u32
     ensures { λ r. ⌜ r ≡ incomingRefusal length ⌝ }
@@ -51,60 +66,71 @@ fn follower_kind(exclusive: bool) -> u8
     }
 }
 
+// Whether a message goes on to steps 3 to 6.
+fn goes_on(parts: Parts, message: Message) -> bool
+    ensures { λ r. ⌜ r ≡ goesOn (stateOf parts) message ⌝ }
+{
+    parts.is_configured() & (message.length() != 1) & is_here(parts, message.destination())
+}
+
 // Steps 3 to 6: reply, core work, copies, Feature Abort.
-fn handled(parts: Parts, message: Message) -> Parts
-    ensures { λ r. ⌜ stateOf r ≡ handled (stateOf parts) (matchTaken message (stateOf parts .waits)) message ⌝ }
+fn to_do(parts: Parts, on: bool, message: Message) -> ToDo
+    ensures { λ r. ⌜ r ≡ toDoOf (stateOf parts) on message ⌝ }
 {
-    let ended = parts.waits.take_match(message);
-    let wait = ended.wait;
+    let waits = parts.waits;
+    let at = waits.first_match(message);
+    let found = at < waits.count();
+    let wait = waits.at(at);
     let work = core::work_for(parts.settings, message);
-    let to_do = steps::choose(parts.handles, work, ended.found, wait.to_followers, message);
-    let mut after = step::replied(parts, ended, message);
-    if to_do.notes {
-        after = step::noted(after, message);
+    let handles = parts.handles;
+    let chosen = steps::choose(handles, work, found, wait.to_followers, message);
+    ToDo {
+        replies: on & found,
+        wait: at,
+        owner: wait.owner,
+        number: wait.number,
+        notes: on & chosen.notes,
+        sends: on & (chosen.answers | chosen.aborts) & parts.can_transmit,
+        answer: step::sent(chosen.aborts, work.answer, message),
+        followers: step::receivers(on & chosen.copies, handles, follower_kind(chosen.exclusive)),
     }
-    if to_do.answers {
-        after = step::sent(after, work.answer);
-    }
-    let kind = follower_kind(to_do.exclusive);
-    if to_do.copies & copies::has(after.handles, kind) {
-        after = copies::copies(after, kind, Entry::message_copy(message));
-    }
-    step::aborted(after, to_do.aborts, message)
 }
 
-fn heard(parts: Parts, message: Message) -> Parts
-    ensures { λ r. ⌜ stateOf r ≡ heard (stateOf parts) message ⌝ }
-{
-    let here = is_here(parts, message.destination());
-    let stops = !parts.is_configured() | (message.length() == 1) | !here;
-    let kind = monitor_kind(here);
-    if copies::has(parts.handles, kind) {
-        let copied = copies::copies(parts, kind, Entry::message_copy(message));
-        if stops {
-            return copied;
-        }
-        return handled(copied, message);
-    }
-    if stops {
-        return parts;
-    }
-    handled(parts, message)
-}
-
-pub fn message(parts: Parts, length: u8, bytes: [u8; 16]) -> Done
+pub fn message(mut parts: Parts, length: u8, bytes: [u8; 16]) -> Done
     ensures { λ r. ⌜ doneOf r ≡ doMessage (stateOf parts) length bytes ⌝ }
     ensures { λ r. ⌜ (r .errno ≢ 0 → r .parts ≡ parts) ⌝ }
 {
     let errno = message_errno(length);
-    if errno != 0 {
-        return Done {
-            parts: parts,
-            errno: errno,
-        };
+    let message = Message::new(length, bytes);
+    let handles = parts.handles;
+    let here = is_here(parts, message.destination());
+    let monitors = step::receivers(errno == 0, handles, monitor_kind(here));
+    if monitors != NOBODY {
+        parts = copies::copies(parts, monitors, Entry::message_copy(message));
+    }
+    let to_do = to_do(parts, (errno == 0) & goes_on(parts, message), message);
+    if to_do.replies {
+        parts.waits = parts.waits.without(to_do.wait);
+        let h = to_do.owner as usize;
+        let n = count_at(parts.counts, to_do.owner);
+        if h < 8 {
+            if n < 16 {
+                parts.entries[16 * h + n] = step::reply_entry(to_do.number, message);
+                parts.counts[h] = n + 1;
+            }
+        }
+    }
+    if to_do.notes {
+        parts.noted = step::noted(parts.noted, message);
+    }
+    if to_do.sends {
+        parts.queue = parts.queue.put(Transmission::ownerless(to_do.answer));
+    }
+    if to_do.followers != NOBODY {
+        parts = copies::copies(parts, to_do.followers, Entry::message_copy(message));
     }
     Done {
-        parts: heard(parts, Message::new(length, bytes)),
-        errno: 0,
+        parts: parts,
+        errno: errno,
     }
 }

@@ -1,22 +1,21 @@
-// Steps 3, 4 and 6 of a message from the wire, each by itself.
+// Parts of the steps of a message from the wire.
 ghost use Prim.Native.Nat.{_+_, _*_};
 ghost use mathlib.Core.Bool.{cond};
 ghost use mathlib.Core.Path.{_≡_};
 ghost use Rattle.constants.specs.Kernel.{CEC-OP-ABORT-UNRECOGNIZED-OP};
 ghost use Rattle.core.specs.Work.{messageOf, abortOf};
-ghost use Rattle.incoming.specs.Steps.{putInto, notedIn};
-ghost use Rattle.parts.specs.Parts.{stateOf};
-ghost use Rattle.rules.specs.Incoming.{replyEntry, replied};
-ghost use Rattle.waits.specs.Waits.{takenOf};
+ghost use Rattle.handles.specs.Roles.{handlesOf};
+ghost use Rattle.incoming.specs.Steps.{notedAt, receiversOf};
+ghost use Rattle.rules.specs.Incoming.{replyEntry};
 use constants::CEC_MSG_FEATURE_ABORT;
 use constants::CEC_OP_ABORT_UNRECOGNIZED_OP;
+use copies::NOBODY;
 use entry::Entry;
+use handles::Handles;
 use message::Message;
-use parts::Parts;
-use transmission::Transmission;
-use waits::Ended;
 
-fn reply_entry(number: u32, message: Message) -> Entry
+// The entry of a reply.
+pub fn reply_entry(number: u32, message: Message) -> Entry
     ensures { λ r. ⌜ r ≡ replyEntry number message ⌝ }
 {
     if message.opcode() == CEC_MSG_FEATURE_ABORT {
@@ -26,20 +25,6 @@ fn reply_entry(number: u32, message: Message) -> Entry
     }
 }
 
-// The wait that the message ends gets it as its reply.
-pub fn replied(parts: Parts, ended: Ended, message: Message) -> Parts
-    ensures { λ r. ⌜ stateOf r ≡ replied (stateOf parts) (takenOf ended) message ⌝ }
-{
-    if ended.found {
-        let wait = ended.wait;
-        let waits = ended.waits;
-        let mut after = parts.deliver(wait.owner, reply_entry(wait.number, message));
-        after.waits = waits;
-        return after;
-    }
-    parts
-}
-
 // Two bytes as a number, the high one first.
 fn joined(high: u8, low: u8) -> u16
     ensures { λ r. ⌜ r ≡ high * 256 + low ⌝ }
@@ -47,41 +32,36 @@ fn joined(high: u8, low: u8) -> u16
     high as u16 * 256 + low as u16
 }
 
-// The address that an initiator reports.
-pub fn noted(parts: Parts, message: Message) -> Parts
-    ensures { λ r. ⌜ stateOf r ≡ notedIn (stateOf parts) message ⌝ }
+// The noted addresses with the one that an initiator reports.
+pub fn noted(mut noted: [u16; 15], message: Message) -> [u16; 15]
+    ensures { λ r. ⌜ r ≡ notedAt noted message ⌝ }
 {
     let from = message.initiator() as usize;
-    if 15 <= from {
-        return parts;
+    if from < 15 {
+        let bytes = message.bytes();
+        noted[from] = joined(bytes[2], bytes[3]);
     }
-    let bytes = message.bytes();
-    let mut after = parts;
-    after.noted[from] = joined(bytes[2], bytes[3]);
-    after
+    noted
 }
 
-// What the core sends, without owner and number.
-pub fn sent(parts: Parts, message: Message) -> Parts
-    ensures { λ r. ⌜ stateOf r ≡ putInto (stateOf parts) message ⌝ }
-{
-    if parts.can_transmit {
-        let mut after = parts;
-        after.queue = parts.queue.put(Transmission::ownerless(message));
-        return after;
-    }
-    parts
-}
-
-// Feature Abort to the initiator, where nobody took the message.
-pub fn aborted(parts: Parts, aborts: bool, message: Message) -> Parts
-    ensures { λ r. ⌜ stateOf r ≡ cond aborts (putInto (stateOf parts) (messageOf (abortOf message CEC-OP-ABORT-UNRECOGNIZED-OP))) (stateOf parts) ⌝ }
+// What the core sends: its answer, or a Feature Abort.
+pub fn sent(aborts: bool, answer: Message, message: Message) -> Message
+    ensures { λ r. ⌜ r ≡ cond aborts (messageOf (abortOf message CEC-OP-ABORT-UNRECOGNIZED-OP)) answer ⌝ }
 {
     if aborts {
-        return sent(
-            parts,
-            core::feature_abort(message, CEC_OP_ABORT_UNRECOGNIZED_OP),
-        );
+        core::feature_abort(message, CEC_OP_ABORT_UNRECOGNIZED_OP)
+    } else {
+        answer
     }
-    parts
+}
+
+// Who gets copies: nobody, if the test fails or no handle is of the kind.
+pub fn receivers(test: bool, handles: Handles, kind: u8) -> u8
+    ensures { λ r. ⌜ r ≡ receiversOf test (handlesOf handles) kind ⌝ }
+{
+    if test & copies::has(handles, kind) {
+        kind
+    } else {
+        NOBODY
+    }
 }

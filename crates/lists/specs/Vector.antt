@@ -11,7 +11,7 @@ use native.Mathlib.Omega.{arith}
 use lib.Dec.{ltb}
 use lib.ListN.{length, getD, set, take, drop, length-map, length-take, length-append, length-set, take-append-drop, drop-of-length-le, replicate, length-replicate, replicate-append-replicate}
 use lib.Seq.{take-suc, drop-cons, set-at, getD-at, take-all, take-at, length-take-le, append-snoc, take-suc-set, take-set-le, drop-set-lt, getD-drop, drop-drop, take-append-le, take-take, getD-take, drop-append-le}
-use borrow.Author.Tests.{lt-ltb, le-ltb}
+use borrow.Author.Tests.{lt-ltb, le-ltb, ltb-true, ltb-false}
 use Rattle.lists.specs.Elements.{map-append, getD-past, getD-same-rest, drop-past, drop-take, take-taken, getD-within}
 use Rattle.lists.specs.Places.{first, first-here, first-none, without, without-append, without-last, length-without, take-without, drop-without}
 use Rattle.lists.specs.Sums.{sum, sum-next, any, any-next, any-taken, keep, keep-append}
@@ -123,8 +123,17 @@ module _ {A : Type 0} (f : A → A) where
       rw (g, getD-at (map f (take j l)) (getD l j d) (drop (suc j) l) d j n, set-at (map f (take j l)) (getD l j d) (drop (suc j) l) (f (getD l j d)) j n, add-one, take-suc l j d h, map-append f (take j l) (getD l j d ∷ []))
       (sym (append-snoc (map f (take j l)) (f (getD l j d)) (drop (suc j) l)))
 
-  pub mapped-end : (j : ℕ) (l : List A) → length l ≤ j → mapped j l ≡ map f l
-  mapped-end j l h = rw (take-all j l h, drop-of-length-le l h, append-nil)
+  -- where the list is the first c slots: all of it is changed, whatever stands past it
+  pub mapped-taken : (c j : ℕ) (l : List A) → j ≡ length (take c l) → take c (mapped j l) ≡ map f (take c l)
+  mapped-taken c j l e =
+      let t : take j l ≡ take c l = take-taken c j l e in
+      let m : length (map f (take c l)) ≡ j = length-map (take c l) f ∙ sym e in
+      split (ltb (length l) c)
+      (λ g. let h : length l < c = ltb-true (length l) c g in
+      let d : drop j l ≡ [] = drop-of-length-le l {i = j} (omega (arith, length-take c l)) in
+      rw (t, d, append-nil) (take-all c (map f (take c l)) (omega (arith, length-take c l))))
+      (λ g. let h : c ≤ length l = ltb-false (length l) c g in
+      rw t (take-append-le c (map f (take c l)) (drop j l) (omega (arith, length-take c l)) ∙ take-all c (map f (take c l)) (omega (arith, length-take c l))))
 
 module _ {A : Type 0} (p : A → Bool) where
   -- those that fail a test taken out: of the first j of l, those that pass are the first k of s, and s is still l from place j on

@@ -46,6 +46,6 @@ module _ (cs : List ℕ) (l : List Entry) (eight : length cs ≡ 8) (long : leng
   pub past-stays : (h : ℕ) (e : Entry) → 8 ≤ h → parts 16 cs l ≡ delivered (parts 16 cs l) h e
   past-stays h e a = delivered-past (parts 16 cs l) h e (omega (arith, length-parts 16 cs l))
 
--- the parts with other entries
-abbrev pub withEntries : Parts → List Entry → Parts
-withEntries p l = record { entries = l; counts = p .counts; queue = p .queue; wire = p .wire; waits = p .waits; handles = p .handles; «can_transmit» = p .«can_transmit»; «can_monitor_all» = p .«can_monitor_all»; last = p .last; settings = p .settings; noted = p .noted }
+-- the parts with other arrays of the inboxes
+abbrev pub withArrays : Parts → List Entry → List ℕ → Parts
+withArrays p l cs = record { entries = l; counts = cs; queue = p .queue; wire = p .wire; waits = p .waits; handles = p .handles; «can_transmit» = p .«can_transmit»; «can_monitor_all» = p .«can_monitor_all»; last = p .last; settings = p .settings; noted = p .noted }

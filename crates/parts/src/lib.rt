@@ -4,7 +4,6 @@ ghost use mathlib.Core.Path.{_≡_};
 ghost use lib.ListN.{getD, length};
 ghost use Rattle.inbox.specs.Inboxes.{inboxesOf, inboxOf};
 ghost use Rattle.rules.specs.Call.{check};
-ghost use Rattle.rules.specs.Deliver.{deliver};
 ghost use Rattle.rules.specs.Handles.{handleAt, isOpen, isConfigured, isOwn};
 ghost use Rattle.rules.specs.State.{fresh, noSettings, noneNoted, withInboxes};
 ghost use Rattle.parts.specs.Parts.{boxesOf, stateOf};
@@ -126,22 +125,6 @@ impl Parts {
     {
         let counts = self.counts;
         count_at(counts, handle)
-    }
-
-    // One more entry at the end of an inbox; a full one stays, and a number over 7 has none.
-    pub fn deliver(mut self, handle: u8, entry: Entry) -> Parts
-        ensures { λ r. ⌜ stateOf r ≡ deliver (stateOf self) handle entry ⌝ }
-        ensures { λ r. ⌜ (8 ≤ handle → r ≡ self) ⌝ }
-    {
-        let h = handle as usize;
-        if h < 8 {
-            let n = self.counts[h];
-            if n < 16 {
-                self.entries[16 * h + n] = entry;
-                self.counts[h] = n + 1;
-            }
-        }
-        self
     }
 
     // The inboxes by themselves.

@@ -27,6 +27,14 @@ impl Queue {
         }
     }
 
+    // With no transmissions.
+    pub fn emptied(mut self) -> Queue
+        ensures { λ r. ⌜ queueOf r ≡ [] ⌝ }
+    {
+        self.count = 0;
+        self
+    }
+
     pub fn count(self) -> usize
         ensures { λ r. ⌜ r ≡ length (queueOf self) ⌝ }
         ensures { λ r. ⌜ r ≤ 18 ⌝ }
@@ -122,8 +130,9 @@ impl Queue {
     pub fn orphaned(mut self, handle: u8) -> Queue
         ensures { λ r. ⌜ queueOf r ≡ map (orphaned handle) (queueOf self) ⌝ }
     {
+        let n = self.count();
         let mut i = 0;
-        while i < 18 {
+        while i < n {
             self.slots[i] = self.slots[i].orphaned(handle);
             i += 1;
         }

@@ -9,12 +9,14 @@ use lib.Dec.{leb}
 use lib.ListN.{length, getD}
 use borrow.Author.Tests.{leb-true, leb-false, lt-ltb, le-ltb, le-leb, lt-leb}
 use Rattle.entry.specs.declared.Entry.{Entry}
+use Rattle.lists.specs.Elements.{empty-list}
 use Rattle.lists.specs.Order.{sort, least-over, sort-least}
 use Rattle.lists.specs.Places.{least, least-lt, without-past, keep-without}
 use Rattle.lists.specs.Sums.{keep, keep-none, keep-all}
 use Rattle.lists.specs.Tests.{split, cond-same}
+use Rattle.rules.specs.Call.{finish, done}
 use Rattle.rules.specs.State.{State, withInboxes, withWaits}
-use Rattle.rules.specs.Time.{overdue}
+use Rattle.rules.specs.Time.{doTime, overdue}
 use Rattle.wait.specs.Wait.{noWait, leftOf}
 use Rattle.wait.specs.declared.Wait.{Wait}
 use Rattle.waits.specs.Waits.{Taken, dueAt, dueTaken}
@@ -89,3 +91,8 @@ others-off ms t e = rw e
 -- the rule's state, from the state with the new inboxes
 pub elapsed-parts : (s u : State) (is js : List (List Entry)) (ws rs : List Wait) → u ≡ withInboxes s is → is ≡ js → ws ≡ rs → withWaits u ws ≡ withInboxes (withWaits s rs) js
 elapsed-parts s u is js ws rs p q r = rw (p, q, r)
+
+-- with no waits, time changes nothing
+pub no-waits : (s : State) (ms : ℕ) → length (s .waits) ≡ 0 → finish done s ≡ doTime s ms
+unfolding doTime
+no-waits s ms e = rw (empty-list (s .waits) e)

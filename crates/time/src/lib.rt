@@ -5,21 +5,28 @@ ghost use Rattle.rules.specs.Time.{doTime};
 use entry::Entry;
 use parts::Done;
 use parts::Parts;
+use parts::count_at;
 
 // Each wait with no more left than that ends by an entry for its owner, with the sent length and bytes, least time left first, oldest first where equal. Others are reduced.
-pub fn time(parts: Parts, ms: u32) -> Done
+pub fn time(mut parts: Parts, ms: u32) -> Done
     ensures { λ r. ⌜ doneOf r ≡ doTime (stateOf parts) ms ⌝ }
 {
-    let mut after = parts;
-    let mut ended = parts.waits.take_due(ms);
-    while ended.found {
-        let wait = ended.wait;
-        after = after.deliver(wait.owner, Entry::timed_out(wait.number, wait.sent));
-        ended = ended.waits.take_due(ms);
+    if 0 < parts.waits.count() {
+        let mut ended = parts.waits.take_due(ms);
+        while ended.found {
+            let wait = ended.wait;
+            let h = wait.owner as usize;
+            let n = count_at(parts.counts, wait.owner);
+            if h < 8 && n < 16 {
+                parts.entries[16 * h + n] = Entry::timed_out(wait.number, wait.sent);
+                parts.counts[h] = n + 1;
+            }
+            ended = ended.waits.take_due(ms);
+        }
+        parts.waits = ended.waits.reduced(ms);
     }
-    after.waits = ended.waits.reduced(ms);
     Done {
-        parts: after,
+        parts: parts,
         errno: 0,
     }
 }

@@ -79,15 +79,17 @@ fn transmit_errno(parts: Parts, handle: u8, request: Request) -> u32
     let wake_up = check(!configured & !request.is_wake_up(), ENONET, reply);
     let poll = check(request.is_poll_invalid(), EINVAL, wake_up);
     let form = check(request.is_malformed(), EINVAL, poll);
-    let others = parts.handles.roles(handle);
+    let handles = parts.handles;
+    let others = handles.roles(handle);
     let role = check(others.exclusive_initiator, EBUSY, form);
+    let own = handles.at(handle);
     let initiator = check(
-        initiator_part(parts.handle_at(handle).mode) == CEC_MODE_NO_INITIATOR,
+        initiator_part(own.mode) == CEC_MODE_NO_INITIATOR,
         EPERM,
         role,
     );
     check(
-        !parts.is_open(handle),
+        !own.is_open,
         EBADF,
         check(!parts.can_transmit, ENOTTY, initiator),
     )

@@ -1,5 +1,6 @@
 // What a transmit is asked for, and the checks that look at nothing else.
 ghost use mathlib.Core.Path.{_≡_};
+ghost use lib.ListN.{getD};
 ghost use Rattle.rules.specs.Transmit.{messageOf, from, to, wantsReply, isPoll, isMalformed, isPollInvalid, isWakeUp, timeoutOf};
 ghost use Rattle.transmit.specs.Request.{requestOf};
 use constants::CEC_LOG_ADDR_BROADCAST;
@@ -27,16 +28,29 @@ impl Request {
         Message::new(self.length, bytes)
     }
 
+    // The byte at a place of what would be sent, 0 past the length.
+    fn sent_byte(self, i: usize) -> u8
+        ensures { λ r. ⌜ r ≡ getD (messageOf (requestOf self) .bytes) i 0 ⌝ }
+    {
+        if self.length as usize <= i {
+            return 0;
+        }
+        if 16 <= i {
+            return 0;
+        }
+        self.bytes[i]
+    }
+
     pub fn initiator(self) -> u8
         ensures { λ r. ⌜ r ≡ from (requestOf self) ⌝ }
     {
-        self.message().initiator()
+        self.sent_byte(0) / 16
     }
 
     pub fn destination(self) -> u8
         ensures { λ r. ⌜ r ≡ to (requestOf self) ⌝ }
     {
-        self.message().destination()
+        self.sent_byte(0) % 16
     }
 
     pub fn wants_reply(self) -> bool
@@ -66,7 +80,7 @@ impl Request {
     pub fn is_wake_up(self) -> bool
         ensures { λ r. ⌜ r ≡ isWakeUp (requestOf self) ⌝ }
     {
-        let code = self.message().opcode();
+        let code = self.sent_byte(1);
         (self.initiator() == CEC_LOG_ADDR_UNREGISTERED)
             & (self.destination() == 0)
             & (self.is_poll() | (code == CEC_MSG_IMAGE_VIEW_ON) | (code == CEC_MSG_TEXT_VIEW_ON))

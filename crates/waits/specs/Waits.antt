@@ -1,14 +1,14 @@
 -- All waits of the adapter in one list, oldest first (document 01, "Wire, time and configuration" and "A message from the wire").
 -- Assumes nothing.
 use Prim.Native.Nat.{ℕ, _≤_, _<_}
-use mathlib.Core.Bool.{Bool, true, false, cond, not}
+use mathlib.Core.Bool.{Bool, cond, not}
 use mathlib.Core.List.{List, [], _∷_}
 use mathlib.Core.Path.{_≡_}
 use native.Mathlib.Omega.{arith}
 use lib.Dec.{ltb, leb}
-use lib.ListN.{length, getD, take, List·getD-eq-default}
-use borrow.Author.Tests.{lt-ltb, le-ltb, le-leb, lt-leb}
-use Rattle.lists.specs.Places.{first, least, least-lt, without, without-past}
+use lib.ListN.{length, getD, take}
+use borrow.Author.Tests.{le-leb, lt-leb}
+use Rattle.lists.specs.Places.{first, least, least-lt, without}
 use Rattle.lists.specs.Sums.{keep}
 use Rattle.lists.specs.Tests.{cond-same}
 use Rattle.message.specs.declared.Message.{Message}
@@ -50,13 +50,6 @@ abbrev pub withoutHandle : ℕ → List Wait → List Wait
 withoutHandle h ws = keep (λ w. not (ownedBy h w)) ws
 
 -- Laws of these.
-pub taken-none : (i : ℕ) (ws : List Wait) → length ws ≤ i → _≡_ {A = Taken} (record { found = false; wait = noWait; rest = ws }) (takenAt i ws)
-taken-none i ws h = rw (le-ltb i (length ws) h, List·getD-eq-default ws noWait {n = i} h, without-past i ws h)
-
-pub taken-some : (i : ℕ) (ws : List Wait) (w : Wait) (rest : List Wait) → i < length ws → w ≡ getD ws i noWait → rest ≡ without i ws
-    → _≡_ {A = Taken} (record { found = true; wait = w; rest = rest }) (takenAt i ws)
-taken-some i ws w rest h a b = rw (lt-ltb i (length ws) h, a, b)
-
 pub due-now : (ms : ℕ) (ws : List Wait) → leftOf (getD ws (least leftOf ws) noWait) ≤ ms → dueAt ms ws ≡ least leftOf ws
 unfolding dueAt
 due-now ms ws h = rw (le-leb (leftOf (getD ws (least leftOf ws) noWait)) ms h)

@@ -6,10 +6,10 @@ ghost use lib.Dec.{ltb};
 ghost use lib.ListN.{length, getD};
 ghost use mathlib.Core.Bool.{cond};
 ghost use Rattle.lists.specs.Sums.{any, count};
-ghost use Rattle.lists.specs.Places.{first, least};
+ghost use Rattle.lists.specs.Places.{first, least, without};
 ghost use Rattle.lists.specs.Vector.{put};
 ghost use Rattle.wait.specs.Wait.{noWait, ownedBy, numbered, answeredBy, leftOf, reduced};
-ghost use Rattle.waits.specs.Waits.{waitsOf, takenOf, takenAt, matchTaken, dueAt, dueTaken, withoutHandle};
+ghost use Rattle.waits.specs.Waits.{waitsOf, takenOf, takenAt, dueAt, dueTaken, withoutHandle};
 use message::Message;
 use wait::Wait;
 
@@ -35,6 +35,14 @@ impl Waits {
             slots: [Wait::none(); 32],
             count: 0,
         }
+    }
+
+    // With no waits.
+    pub fn emptied(mut self) -> Waits
+        ensures { λ r. ⌜ waitsOf r ≡ [] ⌝ }
+    {
+        self.count = 0;
+        self
     }
 
     pub fn count(self) -> usize
@@ -84,34 +92,37 @@ impl Waits {
         self
     }
 
-    // The wait at a place taken out.
-    fn take_at(mut self, at: usize) -> Ended
-        ensures { λ r. ⌜ takenOf r ≡ takenAt at (waitsOf self) ⌝ }
+    // Without the one at a place.
+    pub fn without(mut self, at: usize) -> Waits
+        ensures { λ r. ⌜ waitsOf r ≡ without at (waitsOf self) ⌝ }
     {
         let n = self.count();
         if n <= at {
-            return Ended {
-                found: false,
-                wait: Wait::none(),
-                waits: self,
-            };
+            return self;
         }
-        let wait = self.slots[at];
         let mut i = at;
         while i + 1 < n {
             self.slots[i] = self.slots[i + 1];
             i += 1;
         }
         self.count = i;
+        self
+    }
+
+    // The wait at a place taken out.
+    fn take_at(self, at: usize) -> Ended
+        ensures { λ r. ⌜ takenOf r ≡ takenAt at (waitsOf self) ⌝ }
+    {
+        let wait = self.at(at);
         Ended {
-            found: true,
+            found: at < self.count(),
             wait: wait,
-            waits: self,
+            waits: self.without(at),
         }
     }
 
     // The place of the oldest that a message ends; the count where there is none.
-    fn first_match(self, message: Message) -> usize
+    pub fn first_match(self, message: Message) -> usize
         ensures { λ r. ⌜ r ≡ first (answeredBy message) (waitsOf self) ⌝ }
     {
         let n = self.count();
@@ -123,14 +134,6 @@ impl Waits {
             place += 1;
         }
         n
-    }
-
-    // The oldest that a message ends taken out.
-    pub fn take_match(self, message: Message) -> Ended
-        ensures { λ r. ⌜ takenOf r ≡ matchTaken message (waitsOf self) ⌝ }
-    {
-        let at = self.first_match(message);
-        self.take_at(at)
     }
 
     // Of two places, that of the less time left, the first where equal.
@@ -186,8 +189,9 @@ impl Waits {
     pub fn reduced(mut self, ms: u32) -> Waits
         ensures { λ r. ⌜ waitsOf r ≡ map (reduced ms) (waitsOf self) ⌝ }
     {
+        let n = self.count();
         let mut i = 0;
-        while i < 32 {
+        while i < n {
             self.slots[i] = self.slots[i].reduced(ms);
             i += 1;
         }

@@ -51,17 +51,14 @@ roles-requires c κs = search needs
 check-requires-7 : tie.Need-check-requires-7
 check-requires-7 c κs = search needs
 
-handle-at-requires : tie.Need-handle-at-requires
-handle-at-requires c κs = search needs
+at-requires : tie.Need-at-requires
+at-requires c κs = search needs
 
 initiator-part-requires : tie.Need-initiator-part-requires
 initiator-part-requires c κs = search needs
 
 check-requires-8 : tie.Need-check-requires-8
 check-requires-8 c κs = search needs
-
-is-open-requires : tie.Need-is-open-requires
-is-open-requires c κs = search needs
 
 check-requires-9 : tie.Need-check-requires-9
 check-requires-9 c κs = search needs
@@ -70,7 +67,7 @@ check-requires-10 : tie.Need-check-requires-10
 check-requires-10 c κs = search needs
 
 returns : tie.Need-returns
-returns c = rw (c .check10 .ensures, c .before .check9 .ensures, c .before .before .before .is-open .ensures, c .before .before .before .before .check8 .ensures, c .before .before .before .before .before .initiator-part .ensures, c .before .before .before .before .before .before .handle-at .ensures, c .before .before .before .before .before .before .before .check7 .ensures, c .before .before .before .before .before .before .before .before .roles .ensures, c .before .before .before .before .before .before .before .before .before .check6 .ensures, c .before .before .before .before .before .before .before .before .before .before .is-malformed .ensures, c .before .before .before .before .before .before .before .before .before .before .before .check5 .ensures, c .before .before .before .before .before .before .before .before .before .before .before .before .is-poll-invalid .ensures, c .before .before .before .before .before .before .before .before .before .before .before .before .before .check4 .ensures, c .before .before .before .before .before .before .before .before .before .before .before .before .before .before .is-wake-up .ensures, c .before .before .before .before .before .before .before .before .before .before .before .before .before .before .before .check3 .ensures, c .before .before .before .before .before .before .before .before .before .before .before .before .before .before .before .before .wants-reply .ensures, c .before .before .before .before .before .before .before .before .before .before .before .before .before .before .before .before .before .check2 .ensures, c .before .before .before .before .before .before .before .before .before .before .before .before .before .before .before .before .before .before .is-misaddressed .ensures, c .before .before .before .before .before .before .before .before .before .before .before .before .before .before .before .before .before .before .before .check .ensures, c .before .before .before .before .before .before .before .before .before .before .before .before .before .before .before .before .before .before .before .before .is-full .ensures, c .before .before .before .before .before .before .before .before .before .before .before .before .before .before .before .before .before .before .before .before .before .is-self-poll .ensures, c .before .before .before .before .before .before .before .before .before .before .before .before .before .before .before .before .before .before .before .before .before .before .is-configured .ensures)
+returns c = rw (c .check10 .ensures, c .before .check9 .ensures, c .before .before .before .before .check8 .ensures, c .before .before .before .before .before .initiator-part .ensures, c .before .before .before .before .before .before .at .ensures, c .before .before .before .before .before .before .before .check7 .ensures, c .before .before .before .before .before .before .before .before .roles .ensures, c .before .before .before .before .before .before .before .before .before .before .check6 .ensures, c .before .before .before .before .before .before .before .before .before .before .before .is-malformed .ensures, c .before .before .before .before .before .before .before .before .before .before .before .before .check5 .ensures, c .before .before .before .before .before .before .before .before .before .before .before .before .before .is-poll-invalid .ensures, c .before .before .before .before .before .before .before .before .before .before .before .before .before .before .check4 .ensures, c .before .before .before .before .before .before .before .before .before .before .before .before .before .before .before .is-wake-up .ensures, c .before .before .before .before .before .before .before .before .before .before .before .before .before .before .before .before .check3 .ensures, c .before .before .before .before .before .before .before .before .before .before .before .before .before .before .before .before .before .wants-reply .ensures, c .before .before .before .before .before .before .before .before .before .before .before .before .before .before .before .before .before .before .check2 .ensures, c .before .before .before .before .before .before .before .before .before .before .before .before .before .before .before .before .before .before .before .is-misaddressed .ensures, c .before .before .before .before .before .before .before .before .before .before .before .before .before .before .before .before .before .before .before .before .check .ensures, c .before .before .before .before .before .before .before .before .before .before .before .before .before .before .before .before .before .before .before .before .before .is-full .ensures, c .before .before .before .before .before .before .before .before .before .before .before .before .before .before .before .before .before .before .before .before .before .before .is-self-poll .ensures, c .before .before .before .before .before .before .before .before .before .before .before .before .before .before .before .before .before .before .before .before .before .before .before .is-configured .ensures)
 
 pub transmit-errno-spec : {M : Type 1} → statement M
 transmit-errno-spec =
@@ -92,10 +89,9 @@ transmit-errno-spec =
     check-requires-6
     roles-requires
     check-requires-7
-    handle-at-requires
+    at-requires
     initiator-part-requires
     check-requires-8
-    is-open-requires
     check-requires-9
     check-requires-10
     returns)

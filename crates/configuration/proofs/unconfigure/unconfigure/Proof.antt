@@ -21,14 +21,14 @@ abort-requires c κs = search needs
 with-inboxes-requires : tie.Need-with-inboxes-requires
 with-inboxes-requires c κs = search needs
 
-empty-requires : tie.Need-empty-requires
-empty-requires c κs = search needs
+emptied-requires : tie.Need-emptied-requires
+emptied-requires c κs = search needs
 
 idle-requires : tie.Need-idle-requires
 idle-requires c κs = search needs
 
-empty-requires-2 : tie.Need-empty-requires-2
-empty-requires-2 c κs = search needs
+emptied-requires-2 : tie.Need-emptied-requires-2
+emptied-requires-2 c κs = search needs
 
 no-settings-requires : tie.Need-no-settings-requires
 no-settings-requires c κs = search needs
@@ -42,7 +42,7 @@ returns c =
     let s = stateOf (c .before .before .before .before .before .before .before .before .args .parts) in
     let ends = c .before .before .before .before .before .before .abort .ensures ∙ ap (λ (x : Inboxes). waitsAborted (transmitsAborted (inboxesOf x) (pending s)) (s .waits)) (c .before .before .before .before .before .before .before .inboxes .ensures) in
     ap (finish Answer.done)
-    (unconfigured s (stateOf (c .before .before .before .before .before .with-inboxes .result)) _ _ _ _ _ _ (c .before .before .before .before .before .with-inboxes .ensures) ends (c .before .before .before .before .empty .ensures) (c .before .before .before .idle .ensures) (c .before .before .empty2 .ensures) (c .before .no-settings .ensures) (c .none-noted .ensures))
+    (unconfigured s (stateOf (c .before .before .before .before .before .with-inboxes .result)) _ _ _ _ _ _ (c .before .before .before .before .before .with-inboxes .ensures) ends (c .before .before .before .before .emptied .ensures) (c .before .before .before .idle .ensures) (c .before .before .emptied2 .ensures) (c .before .no-settings .ensures) (c .none-noted .ensures))
 
 pub unconfigure-spec : {M : Type 1} → statement M
 unconfigure-spec =
@@ -51,9 +51,9 @@ unconfigure-spec =
     inboxes-requires
     abort-requires
     with-inboxes-requires
-    empty-requires
+    emptied-requires
     idle-requires
-    empty-requires-2
+    emptied-requires-2
     no-settings-requires
     none-noted-requires
     returns)

@@ -3,14 +3,11 @@ use borrow.Author.Needs.{needs}
 use Rattle.transmit.proofs.request.Request.initiator.Statement.{statement}
 use Rattle.transmit.proofs.request.Request.initiator.Tie as tie
 
-message-requires : tie.Need-message-requires
-message-requires c κs = search needs
-
-initiator-requires : tie.Need-initiator-requires
-initiator-requires c κs = search needs
+sent-byte-requires : tie.Need-sent-byte-requires
+sent-byte-requires c κs = search needs
 
 returns : tie.Need-returns
-returns c = rw (c .initiator .ensures .0, c .before .message .ensures)
+returns c = rw (c .sent-byte .ensures)
 
 pub initiator-spec : {M : Type 1} → statement M
-initiator-spec = tie.close (tie.spec message-requires initiator-requires returns)
+initiator-spec = tie.close (tie.spec sent-byte-requires returns)

@@ -3,11 +3,8 @@ use borrow.Author.Needs.{needs}
 use Rattle.transmit.proofs.request.Request.is_wake_up.Statement.{statement}
 use Rattle.transmit.proofs.request.Request.is_wake_up.Tie as tie
 
-message-requires : tie.Need-message-requires
-message-requires c κs = search needs
-
-opcode-requires : tie.Need-opcode-requires
-opcode-requires c κs = search needs
+sent-byte-requires : tie.Need-sent-byte-requires
+sent-byte-requires c κs = search needs
 
 initiator-requires : tie.Need-initiator-requires
 initiator-requires c κs = search needs
@@ -19,14 +16,13 @@ is-poll-requires : tie.Need-is-poll-requires
 is-poll-requires c κs = search needs
 
 returns : tie.Need-returns
-returns c = rw (c .is-poll .ensures, c .before .destination .ensures, c .before .before .initiator .ensures, c .before .before .before .opcode .ensures, c .before .before .before .before .message .ensures)
+returns c = rw (c .is-poll .ensures, c .before .destination .ensures, c .before .before .initiator .ensures, c .before .before .before .sent-byte .ensures)
 
 pub is-wake-up-spec : {M : Type 1} → statement M
 is-wake-up-spec =
     tie.close
     (tie.spec
-    message-requires
-    opcode-requires
+    sent-byte-requires
     initiator-requires
     destination-requires
     is-poll-requires

@@ -1,0 +1,133 @@
+// The fields of a record's 28 bytes. Numbers are low byte first.
+ghost use mathlib.Core.Path.{_≡_};
+ghost use mathlib.Core.List.{[], _∷_};
+ghost use lib.ListN.{take, drop};
+ghost use Rattle.log.specs.Record.{numberAt};
+ghost use Rattle.fields.specs.Fields.{requestIn, countsIn, settingsIn};
+ghost use Rattle.transmit.specs.Request.{requestOf};
+use entry::Counts;
+use settings::Settings;
+use transmit::request::Request;
+
+fn number_2(b0: u8, b1: u8) -> u16
+    ensures { λ r. ⌜ r ≡ numberAt (b0 ∷ b1 ∷ []) 0 2 ⌝ }
+{
+    b0 as u16 + 256 * b1 as u16
+}
+
+fn number_3(b0: u8, b1: u8, b2: u8) -> u32
+    ensures { λ r. ⌜ r ≡ numberAt (b0 ∷ b1 ∷ b2 ∷ []) 0 3 ⌝ }
+{
+    b0 as u32 + 256 * (b1 as u32 + 256 * b2 as u32)
+}
+
+pub fn number_4(b0: u8, b1: u8, b2: u8, b3: u8) -> u32
+    ensures { λ r. ⌜ r ≡ numberAt (b0 ∷ b1 ∷ b2 ∷ b3 ∷ []) 0 4 ⌝ }
+{
+    b0 as u32 + 256 * (b1 as u32 + 256 * (b2 as u32 + 256 * b3 as u32))
+}
+
+// The 16 bytes after a length: from place 2 on in a message, from place 3 on in a transmit.
+pub fn bytes_at_2(r: [u8; 28]) -> [u8; 16]
+    ensures { λ b. ⌜ b ≡ take 16 (drop 2 r) ⌝ }
+{
+    [
+        r[2],
+        r[3],
+        r[4],
+        r[5],
+        r[6],
+        r[7],
+        r[8],
+        r[9],
+        r[10],
+        r[11],
+        r[12],
+        r[13],
+        r[14],
+        r[15],
+        r[16],
+        r[17],
+    ]
+}
+
+fn bytes_at_3(r: [u8; 28]) -> [u8; 16]
+    ensures { λ b. ⌜ b ≡ take 16 (drop 3 r) ⌝ }
+{
+    [
+        r[3],
+        r[4],
+        r[5],
+        r[6],
+        r[7],
+        r[8],
+        r[9],
+        r[10],
+        r[11],
+        r[12],
+        r[13],
+        r[14],
+        r[15],
+        r[16],
+        r[17],
+        r[18],
+    ]
+}
+
+fn name_of(r: [u8; 28]) -> [u8; 14]
+    ensures { λ b. ⌜ b ≡ take 14 (drop 11 r) ⌝ }
+{
+    [
+        r[11],
+        r[12],
+        r[13],
+        r[14],
+        r[15],
+        r[16],
+        r[17],
+        r[18],
+        r[19],
+        r[20],
+        r[21],
+        r[22],
+        r[23],
+        r[24],
+    ]
+}
+
+pub fn request_of(r: [u8; 28]) -> Request
+    ensures { λ q. ⌜ requestOf q ≡ requestIn r ⌝ }
+{
+    Request {
+        length: r[2],
+        bytes: bytes_at_3(r),
+        reply: r[19],
+        timeout: number_4(r[20], r[21], r[22], r[23]),
+        flags: number_4(r[24], r[25], r[26], r[27]),
+    }
+}
+
+pub fn counts_of(r: [u8; 28]) -> Counts
+    ensures { λ c. ⌜ c ≡ countsIn r ⌝ }
+{
+    Counts {
+        arb_lost: r[2],
+        nack: r[3],
+        low_drive: r[4],
+        error: r[5],
+    }
+}
+
+pub fn settings_of(r: [u8; 28]) -> Settings
+    ensures { λ s. ⌜ s ≡ settingsIn r ⌝ }
+{
+    Settings {
+        physical_address: number_2(r[1], r[2]),
+        mask: number_2(r[3], r[4]),
+        version: r[5],
+        device_type: r[6],
+        vendor_id: number_3(r[7], r[8], r[9]),
+        name_length: r[10],
+        name: name_of(r),
+    }
+}

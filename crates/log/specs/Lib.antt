@@ -1,0 +1,5 @@
+pub mod Record
+pub mod Text
+pub mod Session
+pub mod Gather
+pub mod Log

@@ -1,0 +1,1 @@
+// A recorded session: its records, and the lines that its replay prints. Definitions and theorems, no code.

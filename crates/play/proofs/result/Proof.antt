@@ -1,0 +1,30 @@
+-- `play::result` meets its contract. Assumes nothing.
+use borrow.Author.Needs.{needs}
+use Rattle.play.proofs.Effects.{done-effect}
+use Rattle.play.proofs.result.Statement.{statement}
+use Rattle.play.proofs.result.Tie as tie
+
+array-read-bus-result : tie.Need-array-read-bus-result
+array-read-bus-result c = search needs
+
+counts-of-requires : tie.Need-counts-of-requires
+counts-of-requires c κs = search needs
+
+bus-result-requires : tie.Need-bus-result-requires
+bus-result-requires c κs = search needs
+
+of-done-requires : tie.Need-of-done-requires
+of-done-requires c κs = search needs
+
+returns : tie.Need-returns
+returns c = done-effect (c .of-done .result) (c .before .bus-result .result) _ (c .of-done .ensures .0) (c .of-done .ensures .1) (rw (c .before .before .counts-of .ensures) at (c .before .bus-result .ensures .0))
+
+pub result-spec : {M : Type 1} → statement M
+result-spec =
+    tie.close
+    (tie.spec
+    array-read-bus-result
+    counts-of-requires
+    bus-result-requires
+    of-done-requires
+    returns)
