@@ -1,23 +1,354 @@
-/* The reply test of Clothbadger, for C programs that link libmessage.a (rt staticlib message). */
+/*
+ * Clothbadger: a CEC adapter that several programs share, for programs in C.
+ * docs/C.md is the guide. Link target/staticlib/libclothbadger.a (rt staticlib clothbadger), x86-64 only.
+ *
+ * The caller owes:
+ *  - an adapter that came from cec_adapter_new() and that only these calls changed;
+ *  - pointers that are not null, also where a length is 0, and that do not overlap;
+ *  - rows lent to cec_listing() that are rows: zeroed, or filled by an earlier listing;
+ *  - one call at a time on an adapter: there is no lock in it.
+ * Everything else is tested by the calls: any handle, mode, message, status, number.
+ *
+ * An error is a number of errno.h (Linux), 0 for success. A call that is refused changes nothing,
+ * and the other fields of its answer are 0.
+ */
 #ifndef CLOTHBADGER_H
 #define CLOTHBADGER_H
 
+#include <stdbool.h>
 #include <stddef.h>
 #include <stdint.h>
 
 #ifdef __cplusplus
 extern "C" {
+#define CLOTHBADGER_STATIC_ASSERT static_assert
+#define CLOTHBADGER_ALIGNOF alignof
+#else
+#define CLOTHBADGER_STATIC_ASSERT _Static_assert
+#define CLOTHBADGER_ALIGNOF _Alignof
 #endif
+
+/* The kernel's numbers, written as in linux/cec.h, so that both headers can be included in either order. */
+
+/* Modes of a handle: an initiator part and a follower part. */
+#define CEC_MODE_NO_INITIATOR           (0x0 << 0)
+#define CEC_MODE_INITIATOR              (0x1 << 0)
+#define CEC_MODE_EXCL_INITIATOR         (0x2 << 0)
+#define CEC_MODE_NO_FOLLOWER            (0x0 << 4)
+#define CEC_MODE_FOLLOWER               (0x1 << 4)
+#define CEC_MODE_EXCL_FOLLOWER          (0x2 << 4)
+#define CEC_MODE_EXCL_FOLLOWER_PASSTHRU (0x3 << 4)
+#define CEC_MODE_MONITOR                (0xe << 4)
+#define CEC_MODE_MONITOR_ALL            (0xf << 4)
+
+/* Status bits of a transmit. */
+#define CEC_TX_STATUS_OK                (1 << 0)
+#define CEC_TX_STATUS_ARB_LOST          (1 << 1)
+#define CEC_TX_STATUS_NACK              (1 << 2)
+#define CEC_TX_STATUS_LOW_DRIVE         (1 << 3)
+#define CEC_TX_STATUS_ERROR             (1 << 4)
+#define CEC_TX_STATUS_MAX_RETRIES       (1 << 5)
+#define CEC_TX_STATUS_ABORTED           (1 << 6)
+#define CEC_TX_STATUS_TIMEOUT           (1 << 7)
+
+/* Status bits of a received message. */
+#define CEC_RX_STATUS_OK                (1 << 0)
+#define CEC_RX_STATUS_TIMEOUT           (1 << 1)
+#define CEC_RX_STATUS_FEATURE_ABORT     (1 << 2)
+#define CEC_RX_STATUS_ABORTED           (1 << 3)
+
+/* The flag of a transmit. */
+#define CEC_MSG_FL_REPLY_TO_FOLLOWERS   (1 << 0)
+
+/* Opcodes that the adapter knows, and those of a power status. */
+#define CEC_MSG_FEATURE_ABORT            0x00
+#define CEC_MSG_IMAGE_VIEW_ON            0x04
+#define CEC_MSG_TEXT_VIEW_ON             0x0d
+#define CEC_MSG_GIVE_OSD_NAME            0x46
+#define CEC_MSG_SET_OSD_NAME             0x47
+#define CEC_MSG_GIVE_PHYSICAL_ADDR       0x83
+#define CEC_MSG_REPORT_PHYSICAL_ADDR     0x84
+#define CEC_MSG_DEVICE_VENDOR_ID         0x87
+#define CEC_MSG_GIVE_DEVICE_VENDOR_ID    0x8c
+#define CEC_MSG_GIVE_DEVICE_POWER_STATUS 0x8f
+#define CEC_MSG_REPORT_POWER_STATUS      0x90
+#define CEC_MSG_CEC_VERSION              0x9e
+#define CEC_MSG_GET_CEC_VERSION          0x9f
+#define CEC_MSG_INITIATE_ARC             0xc0
+#define CEC_MSG_REPORT_ARC_INITIATED     0xc1
+#define CEC_MSG_REPORT_ARC_TERMINATED    0xc2
+#define CEC_MSG_ABORT                    0xff
+
+/* Reasons of a Feature Abort. */
+#define CEC_OP_ABORT_UNRECOGNIZED_OP    0
+#define CEC_OP_ABORT_REFUSED            4
+
+/* Versions and device types, for cec_configure(). */
+#define CEC_OP_CEC_VERSION_1_3A         4
+#define CEC_OP_CEC_VERSION_1_4          5
+#define CEC_OP_PRIM_DEVTYPE_TV          0
+#define CEC_OP_PRIM_DEVTYPE_RECORD      1
+#define CEC_OP_PRIM_DEVTYPE_TUNER       3
+#define CEC_OP_PRIM_DEVTYPE_PLAYBACK    4
+#define CEC_OP_PRIM_DEVTYPE_AUDIOSYSTEM 5
+#define CEC_OP_PRIM_DEVTYPE_SWITCH      6
+#define CEC_OP_PRIM_DEVTYPE_PROCESSOR   7
+
+/* Addresses. */
+#define CEC_LOG_ADDR_UNREGISTERED       15
+#define CEC_LOG_ADDR_BROADCAST          15
+#define CEC_PHYS_ADDR_INVALID           0xffff
+
+/* An adapter, opaque: copy it, but change it by the calls alone. */
+#define CLOTHBADGER_ADAPTER_SIZE 5472
+
+struct cec_adapter {
+    uint64_t opaque[CLOTHBADGER_ADAPTER_SIZE / 8];
+};
+
+CLOTHBADGER_STATIC_ASSERT(sizeof(struct cec_adapter) == CLOTHBADGER_ADAPTER_SIZE, "size of an adapter");
+CLOTHBADGER_STATIC_ASSERT(CLOTHBADGER_ALIGNOF(struct cec_adapter) == 8, "alignment of an adapter");
+
+/* A message: the first byte is initiator and destination, the second the opcode. Bytes past the length are 0. */
+struct cec_message {
+    uint8_t length;
+    uint8_t bytes[16];
+};
+
+/* How often each thing went wrong on the wire. */
+struct cec_counts {
+    uint8_t arb_lost;
+    uint8_t nack;
+    uint8_t low_drive;
+    uint8_t error;
+};
+
+/* What an inbox holds: a transmit result (tx_status not 0), a reply (rx_status not 0), or a copy (sequence 0). */
+struct cec_entry {
+    uint32_t sequence;
+    uint8_t tx_status;
+    uint8_t rx_status;
+    struct cec_message message;
+    struct cec_counts counts;
+};
+
+/*
+ * A transmit: the message, the opcode of the reply that is wanted, the milliseconds to wait for it, and flags.
+ * A reply is wanted if reply or timeout is not 0; timeout 0 then means 1000.
+ */
+struct cec_request {
+    uint8_t length;
+    uint8_t bytes[16];
+    uint8_t reply;
+    uint32_t timeout;
+    uint32_t flags;
+};
+
+/* What cec_configure() sets. Bit n of the mask is the logical address n. */
+struct cec_settings {
+    uint16_t physical_address;
+    uint16_t mask;
+    uint8_t version;
+    uint8_t device_type;
+    uint32_t vendor_id;
+    uint8_t name_length;
+    uint8_t name[14];
+};
+
+/* A row of the listing: a handle, its entries, the room that is owed to it, and the copies that it lost. */
+struct cec_row {
+    uint8_t number;
+    bool is_open;
+    uint32_t mode;
+    uint32_t entries;
+    uint32_t owed;
+    uint32_t lost;
+};
+
+/* The answers of the calls that give more than an error. */
+struct cec_open_answer {
+    uint32_t error;
+    uint8_t handle;
+};
+
+struct cec_transmit_answer {
+    uint32_t error;
+    uint32_t sequence;
+    uint8_t tx_status;
+};
+
+struct cec_receive_answer {
+    uint32_t error;
+    struct cec_entry entry;
+};
+
+struct cec_bus_start_answer {
+    uint32_t error;
+    struct cec_message message;
+};
+
+struct cec_lookup_answer {
+    uint32_t error;
+    uint16_t address;
+};
+
+/* The adapter after a call, and the answer. */
+struct cec_after {
+    struct cec_adapter adapter;
+    uint32_t error;
+};
+
+struct cec_after_open {
+    struct cec_adapter adapter;
+    struct cec_open_answer answer;
+};
+
+struct cec_after_transmit {
+    struct cec_adapter adapter;
+    struct cec_transmit_answer answer;
+};
+
+struct cec_after_receive {
+    struct cec_adapter adapter;
+    struct cec_receive_answer answer;
+};
+
+struct cec_after_bus_start {
+    struct cec_adapter adapter;
+    struct cec_bus_start_answer answer;
+};
+
+/*
+ * The proved functions. Each takes the adapter by value and gives back the one after the call.
+ * The forms below them, with a pointer, are what a program calls.
+ */
+struct cec_adapter cec_adapter_new(bool can_transmit, bool can_monitor_all);
+size_t cec_adapter_size(void);
+struct cec_after_open cec_adapter_open(struct cec_adapter adapter, bool privileged);
+struct cec_after cec_adapter_close(struct cec_adapter adapter, uint8_t handle);
+struct cec_after cec_adapter_set_mode(struct cec_adapter adapter, uint8_t handle, uint32_t mode);
+struct cec_after_transmit cec_adapter_transmit(struct cec_adapter adapter, uint8_t handle, struct cec_request request);
+struct cec_after_receive cec_adapter_receive(struct cec_adapter adapter, uint8_t handle);
+struct cec_after_bus_start cec_adapter_bus_start(struct cec_adapter adapter);
+struct cec_after cec_adapter_bus_result(struct cec_adapter adapter, uint8_t status, struct cec_counts counts);
+struct cec_after cec_adapter_received(struct cec_adapter adapter, struct cec_message message);
+struct cec_after cec_adapter_time_passed(struct cec_adapter adapter, uint32_t ms);
+struct cec_after cec_adapter_configure(struct cec_adapter adapter, struct cec_settings settings);
+struct cec_after cec_adapter_unconfigure(struct cec_adapter adapter);
+uint32_t cec_adapter_listing(struct cec_adapter adapter, struct cec_row *rows, size_t count);
+struct cec_lookup_answer cec_adapter_lookup(struct cec_adapter adapter, uint8_t address);
 
 /*
  * Whether the received bytes are the reply to the sent bytes, with the opcode
  * wanted as the reply: 1 for a match, 0 for none. Each message is a pointer and
- * a length; any length is taken, and one under 2 or over 16 is no match. A
- * pointer is not null, also where the length is 0.
+ * a length; any length is taken, and one under 2 or over 16 is no match.
  */
 uint8_t cec_reply_match(const uint8_t *sent, size_t sent_length,
                         const uint8_t *received, size_t received_length,
                         uint8_t wanted);
+
+/* Opens the lowest closed handle, in mode CEC_MODE_INITIATOR. Privileged stands for CAP_NET_ADMIN. EMFILE: eight are open. */
+static inline struct cec_open_answer cec_open(struct cec_adapter *adapter, bool privileged)
+{
+    struct cec_after_open after = cec_adapter_open(*adapter, privileged);
+    *adapter = after.adapter;
+    return after.answer;
+}
+
+/* Closes a handle: its inbox and its waits are gone, and messages that it queued are sent without a result. EBADF. */
+static inline uint32_t cec_close(struct cec_adapter *adapter, uint8_t handle)
+{
+    struct cec_after after = cec_adapter_close(*adapter, handle);
+    *adapter = after.adapter;
+    return after.error;
+}
+
+/* CEC_S_MODE: an initiator part and a follower part. EBADF, EINVAL, EPERM (monitor without privilege), EBUSY (exclusive role held). */
+static inline uint32_t cec_set_mode(struct cec_adapter *adapter, uint8_t handle, uint32_t mode)
+{
+    struct cec_after after = cec_adapter_set_mode(*adapter, handle, mode);
+    *adapter = after.adapter;
+    return after.error;
+}
+
+/*
+ * CEC_TRANSMIT of a handle that does not block: queues a message under a sequence number. Its result, and its reply if
+ * one is wanted, come to the inbox of this handle alone. EBADF, ENOTTY, EPERM, EBUSY, EINVAL, ENONET.
+ */
+static inline struct cec_transmit_answer cec_transmit(struct cec_adapter *adapter, uint8_t handle, struct cec_request request)
+{
+    struct cec_after_transmit after = cec_adapter_transmit(*adapter, handle, request);
+    *adapter = after.adapter;
+    return after.answer;
+}
+
+/* CEC_RECEIVE of a handle that does not block: gives the oldest entry of the inbox and takes it out. EBADF, EAGAIN. */
+static inline struct cec_receive_answer cec_receive(struct cec_adapter *adapter, uint8_t handle)
+{
+    struct cec_after_receive after = cec_adapter_receive(*adapter, handle);
+    *adapter = after.adapter;
+    return after.answer;
+}
+
+/* The driver asks what to send next: the oldest message of the queue, which is on the wire from now on. EBUSY, EAGAIN. */
+static inline struct cec_bus_start_answer cec_bus_start(struct cec_adapter *adapter)
+{
+    struct cec_after_bus_start after = cec_adapter_bus_start(*adapter);
+    *adapter = after.adapter;
+    return after.answer;
+}
+
+/* The driver says how the message on the wire ended: CEC_TX_STATUS_ bits, and how often each thing went wrong. EINVAL. */
+static inline uint32_t cec_bus_result(struct cec_adapter *adapter, uint8_t status, struct cec_counts counts)
+{
+    struct cec_after after = cec_adapter_bus_result(*adapter, status, counts);
+    *adapter = after.adapter;
+    return after.error;
+}
+
+/* The driver hands in a message that came from the wire. EINVAL: its length is not 1 to 16. */
+static inline uint32_t cec_received(struct cec_adapter *adapter, struct cec_message message)
+{
+    struct cec_after after = cec_adapter_received(*adapter, message);
+    *adapter = after.adapter;
+    return after.error;
+}
+
+/* Milliseconds passed: waits for a reply end with CEC_RX_STATUS_TIMEOUT. Always 0. */
+static inline uint32_t cec_time_passed(struct cec_adapter *adapter, uint32_t ms)
+{
+    struct cec_after after = cec_adapter_time_passed(*adapter, ms);
+    *adapter = after.adapter;
+    return after.error;
+}
+
+/* Sets the physical address, the own logical addresses and what the core answers of the box. EBUSY (configured already), EINVAL. */
+static inline uint32_t cec_configure(struct cec_adapter *adapter, struct cec_settings settings)
+{
+    struct cec_after after = cec_adapter_configure(*adapter, settings);
+    *adapter = after.adapter;
+    return after.error;
+}
+
+/* Takes the addresses away: all transmits and waits end with CEC_TX_STATUS_ABORTED or CEC_RX_STATUS_ABORTED. Always 0. */
+static inline uint32_t cec_unconfigure(struct cec_adapter *adapter)
+{
+    struct cec_after after = cec_adapter_unconfigure(*adapter);
+    *adapter = after.adapter;
+    return after.error;
+}
+
+/* Fills the first eight of the rows, one for each handle number. EINVAL: under eight rows. */
+static inline uint32_t cec_listing(const struct cec_adapter *adapter, struct cec_row *rows, size_t count)
+{
+    return cec_adapter_listing(*adapter, rows, count);
+}
+
+/* The physical address that a device reported, CEC_PHYS_ADDR_INVALID if none. EINVAL: the logical address is over 14. */
+static inline struct cec_lookup_answer cec_lookup(const struct cec_adapter *adapter, uint8_t address)
+{
+    return cec_adapter_lookup(*adapter, address);
+}
 
 #ifdef __cplusplus
 }

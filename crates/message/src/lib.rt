@@ -4,7 +4,7 @@ ghost use Prim.Native.Nat.{_≤_, _/_, min};
 ghost use lib.ListN.{getD, length};
 ghost use Rattle.message.specs.Message.{message, contents, initiator, destination, opcode};
 
-mod reply;
+pub mod reply;
 
 // A length of at most 16, and 16 bytes that are 0 past it.
 #[repr(C)]

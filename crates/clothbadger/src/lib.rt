@@ -1,0 +1,158 @@
+// The calls of the adapter for programs in C (include/clothbadger.h): each takes the adapter by value, and its promise is that of the call in crate `adapter`.
+ghost use mathlib.Core.Logic.{_≢_};
+ghost use mathlib.Core.Path.{_≡_};
+ghost use prog.Memory.{size};
+ghost use Rattle.adapter.specs.Adapter.{stateOf, doneOf, openedOf, transmittedOf, receivedOf, startedOf};
+ghost use Rattle.adapter.proofs.Adapter.Laws as adapter-laws;
+ghost use Rattle.listing.specs.Rows.{listedOf};
+ghost use Rattle.lists.specs.Tests.{bit};
+ghost use Rattle.message.specs.Reply.{isReply};
+ghost use Rattle.rows.specs.Noted.{notedOf};
+ghost use Rattle.rules.specs.Call.{callOpen, callClose, callMode, callTransmit, callReceive, callBusStart, callBusResult, callMessage, callTime, callConfigure, callUnconfigure, callListing, callLookup};
+ghost use Rattle.rules.specs.Listing.{rowsAfter};
+ghost use Rattle.rules.specs.State.{fresh};
+ghost use Rattle.rules.specs.Step.{step};
+ghost use Rattle.transmit.specs.Request.{requestOf};
+use adapter::Adapter;
+use adapter::Done;
+use adapter::Opened;
+use adapter::Received;
+use adapter::Started;
+use adapter::Transmitted;
+use entry::Counts;
+use handle::Row;
+use message::Message;
+use rows::Noted;
+use settings::Settings;
+use transmit::request::Request;
+
+#[no_mangle]
+pub extern "C" fn cec_adapter_new(can_transmit: bool, can_monitor_all: bool) -> Adapter
+    ensures { λ r. ⌜ stateOf r ≡ fresh (record { transmit = «can_transmit»; monitorAll = «can_monitor_all» }) ⌝ }
+{
+    Adapter::fresh(can_transmit, can_monitor_all)
+}
+
+// How many bytes an adapter has in memory.
+#[no_mangle]
+pub extern "C" fn cec_adapter_size() -> usize
+    ensures { λ r. ⌜ r ≡ size adapter-laws.mir ⌝ }
+{
+    5472
+}
+
+#[no_mangle]
+pub extern "C" fn cec_adapter_open(adapter: Adapter, privileged: bool) -> Opened
+    ensures { λ r. ⌜ openedOf r ≡ step (stateOf adapter) (callOpen privileged) ⌝ }
+    ensures { λ r. ⌜ (r .errno ≢ 0 → r .adapter ≡ adapter) ⌝ }
+{
+    adapter.open(privileged)
+}
+
+#[no_mangle]
+pub extern "C" fn cec_adapter_close(adapter: Adapter, handle: u8) -> Done
+    ensures { λ r. ⌜ doneOf r ≡ step (stateOf adapter) (callClose handle) ⌝ }
+    ensures { λ r. ⌜ (r .errno ≢ 0 → r .adapter ≡ adapter) ⌝ }
+{
+    adapter.close(handle)
+}
+
+#[no_mangle]
+pub extern "C" fn cec_adapter_set_mode(adapter: Adapter, handle: u8, mode: u32) -> Done
+    ensures { λ r. ⌜ doneOf r ≡ step (stateOf adapter) (callMode handle mode) ⌝ }
+    ensures { λ r. ⌜ (r .errno ≢ 0 → r .adapter ≡ adapter) ⌝ }
+{
+    adapter.mode(handle, mode)
+}
+
+#[no_mangle]
+pub extern "C" fn cec_adapter_transmit(
+    adapter: Adapter,
+    handle: u8,
+    request: Request,
+) -> Transmitted
+    ensures { λ r. ⌜ transmittedOf r ≡ step (stateOf adapter) (callTransmit handle (requestOf request)) ⌝ }
+    ensures { λ r. ⌜ (r .errno ≢ 0 → r .adapter ≡ adapter) ⌝ }
+{
+    adapter.transmit(handle, request)
+}
+
+#[no_mangle]
+pub extern "C" fn cec_adapter_receive(adapter: Adapter, handle: u8) -> Received
+    ensures { λ r. ⌜ receivedOf r ≡ step (stateOf adapter) (callReceive handle) ⌝ }
+    ensures { λ r. ⌜ (r .errno ≢ 0 → r .adapter ≡ adapter) ⌝ }
+{
+    adapter.receive(handle)
+}
+
+#[no_mangle]
+pub extern "C" fn cec_adapter_bus_start(adapter: Adapter) -> Started
+    ensures { λ r. ⌜ startedOf r ≡ step (stateOf adapter) callBusStart ⌝ }
+    ensures { λ r. ⌜ (r .errno ≢ 0 → r .adapter ≡ adapter) ⌝ }
+{
+    adapter.bus_start()
+}
+
+#[no_mangle]
+pub extern "C" fn cec_adapter_bus_result(adapter: Adapter, status: u8, counts: Counts) -> Done
+    ensures { λ r. ⌜ doneOf r ≡ step (stateOf adapter) (callBusResult status counts) ⌝ }
+    ensures { λ r. ⌜ (r .errno ≢ 0 → r .adapter ≡ adapter) ⌝ }
+{
+    adapter.bus_result(status, counts)
+}
+
+// A message came from the wire.
+#[no_mangle]
+pub extern "C" fn cec_adapter_received(adapter: Adapter, message: Message) -> Done
+    ensures { λ r. ⌜ doneOf r ≡ step (stateOf adapter) (callMessage (message .length) (message .bytes)) ⌝ }
+    ensures { λ r. ⌜ (r .errno ≢ 0 → r .adapter ≡ adapter) ⌝ }
+{
+    adapter.message(message.length(), message.bytes())
+}
+
+// Milliseconds passed.
+#[no_mangle]
+pub extern "C" fn cec_adapter_time_passed(adapter: Adapter, ms: u32) -> Done
+    ensures { λ r. ⌜ doneOf r ≡ step (stateOf adapter) (callTime ms) ⌝ }
+{
+    adapter.time(ms)
+}
+
+#[no_mangle]
+pub extern "C" fn cec_adapter_configure(adapter: Adapter, settings: Settings) -> Done
+    ensures { λ r. ⌜ doneOf r ≡ step (stateOf adapter) (callConfigure settings) ⌝ }
+    ensures { λ r. ⌜ (r .errno ≢ 0 → r .adapter ≡ adapter) ⌝ }
+{
+    adapter.configure(settings)
+}
+
+#[no_mangle]
+pub extern "C" fn cec_adapter_unconfigure(adapter: Adapter) -> Done
+    ensures { λ r. ⌜ doneOf r ≡ step (stateOf adapter) callUnconfigure ⌝ }
+{
+    adapter.unconfigure()
+}
+
+// "Under 8 rows: EINVAL; rows past 8 stay." The errno is given back, 0 for success; a refusal leaves the rows as they were.
+#[no_mangle]
+pub extern "C" fn cec_adapter_listing(adapter: Adapter, rows: &mut [Row]) -> u32
+    ensures { λ r. ⌜ (now (rows .exit) ≡ rowsAfter (stateOf adapter) (now (rows .entry))) × (listedOf (stateOf adapter) r (now (rows .exit)) ≡ step (stateOf adapter) (callListing (now (rows .entry)))) ⌝ }
+{
+    listing::listing(adapter, rows)
+}
+
+// The address noted for a logical one. It changes nothing, so that no adapter comes back.
+#[no_mangle]
+pub extern "C" fn cec_adapter_lookup(adapter: Adapter, address: u8) -> Noted
+    ensures { λ r. ⌜ notedOf (stateOf adapter) r ≡ step (stateOf adapter) (callLookup address) ⌝ }
+{
+    adapter.lookup(address)
+}
+
+// The reply test on bytes: 1 for a match, 0 for none.
+#[no_mangle]
+pub extern "C" fn cec_reply_match(sent: &[u8], received: &[u8], wanted: u8) -> u8
+    ensures { λ r. ⌜ r ≡ bit (isReply (now (sent .entry)) (now (received .entry)) wanted) ⌝ }
+{
+    message::reply::cec_reply_match(sent, received, wanted)
+}
