@@ -9,8 +9,8 @@
  *  - one call at a time on an adapter: there is no lock in it.
  * Everything else is tested by the calls: any handle, mode, message, status, number.
  *
- * An error is a number of errno.h (Linux), 0 for success. A call that is refused changes nothing,
- * and the other fields of its answer are 0.
+ * An error is a number of Linux's errno.h, 0 for success. A call that is refused changes nothing, and
+ * gives nothing but its error.
  */
 #ifndef CLOTHBADGER_H
 #define CLOTHBADGER_H

@@ -1,0 +1,89 @@
+/*
+ * The structs of clothbadger.h lie in memory as those of the proved code: sizes, alignments, and each field by its name.
+ * c/run makes structs.inc: the structs of the Rattle sources, written in C.
+ */
+#include "clothbadger.h"
+
+#include "structs.inc"
+
+#define SIZES(ours, theirs)                                                                        \
+    _Static_assert(sizeof(struct ours) == sizeof(struct theirs), "size of " #ours);                \
+    _Static_assert(_Alignof(struct ours) == _Alignof(struct theirs), "alignment of " #ours)
+
+#define PLACES(ours, field, theirs, its)                                                                     \
+    _Static_assert(offsetof(struct ours, field) == offsetof(struct theirs, its), "place of " #ours "." #field); \
+    _Static_assert(sizeof(((struct ours *)0)->field) == sizeof(((struct theirs *)0)->its), "size of " #ours "." #field)
+
+#define SAME(ours, theirs, field) PLACES(ours, field, theirs, field)
+
+SIZES(cec_adapter, adapter_Adapter);
+
+SIZES(cec_message, message_Message);
+SAME(cec_message, message_Message, length);
+SAME(cec_message, message_Message, bytes);
+
+SIZES(cec_counts, entry_Counts);
+SAME(cec_counts, entry_Counts, arb_lost);
+SAME(cec_counts, entry_Counts, nack);
+SAME(cec_counts, entry_Counts, low_drive);
+SAME(cec_counts, entry_Counts, error);
+
+SIZES(cec_entry, entry_Entry);
+SAME(cec_entry, entry_Entry, sequence);
+SAME(cec_entry, entry_Entry, tx_status);
+SAME(cec_entry, entry_Entry, rx_status);
+SAME(cec_entry, entry_Entry, message);
+SAME(cec_entry, entry_Entry, counts);
+
+SIZES(cec_request, transmit_Request);
+SAME(cec_request, transmit_Request, length);
+SAME(cec_request, transmit_Request, bytes);
+SAME(cec_request, transmit_Request, reply);
+SAME(cec_request, transmit_Request, timeout);
+SAME(cec_request, transmit_Request, flags);
+
+SIZES(cec_settings, settings_Settings);
+SAME(cec_settings, settings_Settings, physical_address);
+SAME(cec_settings, settings_Settings, mask);
+SAME(cec_settings, settings_Settings, version);
+SAME(cec_settings, settings_Settings, device_type);
+SAME(cec_settings, settings_Settings, vendor_id);
+SAME(cec_settings, settings_Settings, name_length);
+SAME(cec_settings, settings_Settings, name);
+
+SIZES(cec_row, handle_Row);
+SAME(cec_row, handle_Row, number);
+SAME(cec_row, handle_Row, is_open);
+SAME(cec_row, handle_Row, mode);
+SAME(cec_row, handle_Row, entries);
+SAME(cec_row, handle_Row, owed);
+SAME(cec_row, handle_Row, lost);
+
+SIZES(cec_lookup_answer, rows_Noted);
+SAME(cec_lookup_answer, rows_Noted, error);
+SAME(cec_lookup_answer, rows_Noted, address);
+
+SIZES(cec_after, adapter_Done);
+SAME(cec_after, adapter_Done, adapter);
+SAME(cec_after, adapter_Done, error);
+
+SIZES(cec_after_open, adapter_Opened);
+SAME(cec_after_open, adapter_Opened, adapter);
+PLACES(cec_after_open, answer.error, adapter_Opened, error);
+PLACES(cec_after_open, answer.handle, adapter_Opened, handle);
+
+SIZES(cec_after_transmit, adapter_Transmitted);
+SAME(cec_after_transmit, adapter_Transmitted, adapter);
+PLACES(cec_after_transmit, answer.error, adapter_Transmitted, error);
+PLACES(cec_after_transmit, answer.sequence, adapter_Transmitted, number);
+PLACES(cec_after_transmit, answer.tx_status, adapter_Transmitted, tx_status);
+
+SIZES(cec_after_receive, adapter_Received);
+SAME(cec_after_receive, adapter_Received, adapter);
+PLACES(cec_after_receive, answer.error, adapter_Received, error);
+PLACES(cec_after_receive, answer.entry, adapter_Received, entry);
+
+SIZES(cec_after_bus_start, adapter_Started);
+SAME(cec_after_bus_start, adapter_Started, adapter);
+PLACES(cec_after_bus_start, answer.error, adapter_Started, error);
+PLACES(cec_after_bus_start, answer.message, adapter_Started, message);

@@ -1,0 +1,227 @@
+/*
+ * The camera program and the chart program share one wire, through the C header.
+ * It prints the lines of crates/tour/stdout.
+ */
+#include "clothbadger.h"
+
+#include <inttypes.h>
+#include <stdio.h>
+
+/* The display and the amplifier on the wire, and the address of the box. */
+enum { DISPLAY = 0, BOX = 4, AMPLIFIER = 5 };
+
+/* Set Menu Language, which a display sends to all. */
+enum { SET_MENU_LANGUAGE = 0x32 };
+
+/* The handles that the programs get. */
+enum { CAMERA = 0, CHART = 1, MONITOR = 2 };
+
+static const struct cec_counts no_counts;
+
+static struct cec_adapter adapter;
+
+static const char *program(uint8_t handle)
+{
+    static const char *const names[] = {"camera", "chart", "monitor"};
+    return names[handle < MONITOR ? handle : MONITOR];
+}
+
+static uint8_t header(uint8_t from, uint8_t to)
+{
+    return (uint8_t)(from << 4 | to);
+}
+
+static void open_handle(bool privileged)
+{
+    struct cec_open_answer answer = cec_open(&adapter, privileged);
+    printf("%s: open, errno %" PRIu32 ", handle %u\n", program(answer.handle), answer.error, answer.handle);
+}
+
+static void configure(void)
+{
+    struct cec_settings settings = {
+        .physical_address = 0x1000,
+        .mask = 1 << BOX,
+        .version = CEC_OP_CEC_VERSION_1_4,
+        .device_type = CEC_OP_PRIM_DEVTYPE_PLAYBACK,
+        .vendor_id = 0x00A0B0,
+        .name_length = 3,
+        .name = {'T', 'U', 'G'},
+    };
+    printf("box: configure, errno %" PRIu32 "\n", cec_configure(&adapter, settings));
+}
+
+static void transmit(uint8_t handle, uint8_t from, uint8_t to, uint8_t opcode, uint8_t reply)
+{
+    struct cec_request request = {.length = 2, .bytes = {header(from, to), opcode}, .reply = reply};
+    struct cec_transmit_answer answer = cec_transmit(&adapter, handle, request);
+    printf("%s: transmit to %u, errno %" PRIu32 ", number %" PRIu32 "\n", program(handle), to, answer.error, answer.sequence);
+}
+
+/* A device is asked for its power status. */
+static void ask(uint8_t handle, uint8_t device)
+{
+    transmit(handle, BOX, device, CEC_MSG_GIVE_DEVICE_POWER_STATUS, CEC_MSG_REPORT_POWER_STATUS);
+}
+
+/* The next message goes out and comes to its end. */
+static void send_next(uint8_t status, struct cec_counts counts)
+{
+    struct cec_bus_start_answer start = cec_bus_start(&adapter);
+    printf("wire: start, errno %" PRIu32 ", to %u", start.error, start.message.bytes[0] & 15);
+    printf("; result, errno %" PRIu32 ", status %u\n", cec_bus_result(&adapter, status, counts), status);
+}
+
+/* A message of three bytes comes from the wire. */
+static void come(uint8_t from, uint8_t to, uint8_t opcode, uint8_t third)
+{
+    cec_received(&adapter, (struct cec_message){.length = 3, .bytes = {header(from, to), opcode, third}});
+}
+
+/* A device answers the box. */
+static void answer_box(uint8_t from, uint8_t opcode, uint8_t third)
+{
+    printf("wire: message from %u, opcode %u\n", from, opcode);
+    come(from, BOX, opcode, third);
+}
+
+static void receive(uint8_t handle)
+{
+    struct cec_receive_answer answer = cec_receive(&adapter, handle);
+    const struct cec_entry *entry = &answer.entry;
+    printf("%s: receive, ", program(handle));
+    if (answer.error)
+        printf("errno %" PRIu32 "\n", answer.error);
+    else
+        printf("number %" PRIu32 ", tx_status %u, rx_status %u, opcode %u\n", entry->sequence, entry->tx_status,
+               entry->rx_status, entry->message.bytes[1]);
+}
+
+/* Each program reads what it has, oldest first. */
+static void read_out(void)
+{
+    receive(CAMERA);
+    receive(CAMERA);
+    receive(CHART);
+    receive(CHART);
+}
+
+static void pass_time(uint32_t ms)
+{
+    printf("clock: milliseconds %" PRIu32 "\n", ms);
+    cec_time_passed(&adapter, ms);
+}
+
+/* Both ask, and both messages go out. */
+static void both_ask(void)
+{
+    ask(CAMERA, DISPLAY);
+    ask(CHART, AMPLIFIER);
+    send_next(CEC_TX_STATUS_OK, no_counts);
+    send_next(CEC_TX_STATUS_OK, no_counts);
+}
+
+/* The display is woken before the box has an address. */
+static void wake(void)
+{
+    transmit(CAMERA, CEC_LOG_ADDR_UNREGISTERED, DISPLAY, CEC_MSG_IMAGE_VIEW_ON, 0);
+    send_next(CEC_TX_STATUS_OK, no_counts);
+    receive(CAMERA);
+}
+
+/* The replies come the other way round, and each program gets its own. */
+static void replies(void)
+{
+    both_ask();
+    answer_box(AMPLIFIER, CEC_MSG_REPORT_POWER_STATUS, 0);
+    answer_box(DISPLAY, CEC_MSG_REPORT_POWER_STATUS, 1);
+    read_out();
+    receive(CAMERA);
+    receive(CHART);
+}
+
+/* One is not answered in time, the other is told that the opcode is not known. */
+static void no_replies(void)
+{
+    both_ask();
+    pass_time(999);
+    answer_box(AMPLIFIER, CEC_MSG_FEATURE_ABORT, CEC_MSG_GIVE_DEVICE_POWER_STATUS);
+    pass_time(1);
+    read_out();
+}
+
+/* A message that is not taken off the wire. */
+static void not_taken(void)
+{
+    ask(CHART, AMPLIFIER);
+    send_next(CEC_TX_STATUS_NACK | CEC_TX_STATUS_MAX_RETRIES, (struct cec_counts){.nack = 5});
+    receive(CHART);
+    receive(CHART);
+}
+
+static void look_up(uint8_t address)
+{
+    struct cec_lookup_answer answer = cec_lookup(&adapter, address);
+    printf("box: lookup of %u, errno %" PRIu32 ", physical address %u\n", address, answer.error, answer.address);
+}
+
+/* The amplifier reports its physical address, 0x2000. */
+static void report(void)
+{
+    uint8_t to_all = header(AMPLIFIER, CEC_LOG_ADDR_BROADCAST);
+    cec_received(&adapter, (struct cec_message){.length = 5, .bytes = {to_all, CEC_MSG_REPORT_PHYSICAL_ADDR, 0x20}});
+    look_up(AMPLIFIER);
+    look_up(CEC_LOG_ADDR_BROADCAST);
+}
+
+/* The listing's rows of the three programs. */
+static void list(void)
+{
+    struct cec_row rows[8] = {{0}};
+    cec_listing(&adapter, rows, 8);
+    for (size_t i = 0; i < 3; i++)
+        printf("listing: handle %u, mode %" PRIu32 ", entries %" PRIu32 ", owed %" PRIu32 ", lost %" PRIu32 "\n",
+               rows[i].number, rows[i].mode, rows[i].entries, rows[i].owed, rows[i].lost);
+}
+
+/* A monitor has room for 16 copies; the listing says how many it lost. */
+static void watch(void)
+{
+    open_handle(true);
+    printf("monitor: mode, errno %" PRIu32 "\n", cec_set_mode(&adapter, MONITOR, CEC_MODE_MONITOR));
+    for (int i = 0; i < 18; i++)
+        come(DISPLAY, CEC_LOG_ADDR_BROADCAST, SET_MENU_LANGUAGE, 0x65);
+    puts("wire: 18 messages from 0 to all");
+    list();
+    receive(MONITOR);
+    receive(CAMERA);
+}
+
+/* One transmit waits for its reply, one is queued: the address is taken away. */
+static void unconfigure(void)
+{
+    ask(CAMERA, DISPLAY);
+    send_next(CEC_TX_STATUS_OK, no_counts);
+    ask(CHART, AMPLIFIER);
+    printf("box: unconfigure, errno %" PRIu32 "\n", cec_unconfigure(&adapter));
+    read_out();
+    ask(CHART, AMPLIFIER);
+}
+
+int main(void)
+{
+    if (cec_adapter_size() != sizeof adapter)
+        return 1;
+    adapter = cec_adapter_new(true, true);
+    open_handle(false);
+    open_handle(false);
+    wake();
+    configure();
+    replies();
+    no_replies();
+    not_taken();
+    report();
+    watch();
+    unconfigure();
+    return 0;
+}
