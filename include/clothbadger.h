@@ -144,7 +144,10 @@ struct cec_request {
     uint32_t flags;
 };
 
-/* What cec_configure() sets. Bit n of the mask is the logical address n. */
+/*
+ * What cec_configure() sets: a physical address other than CEC_PHYS_ADDR_INVALID, 1 to 4 own logical addresses (bit n of the
+ * mask is address n, 0 to 14), a CEC_OP_CEC_VERSION_, a CEC_OP_PRIM_DEVTYPE_, a vendor id of 24 bits, an OSD name of 1 to 14 bytes.
+ */
 struct cec_settings {
     uint16_t physical_address;
     uint16_t mask;
@@ -263,7 +266,7 @@ static inline uint32_t cec_close(struct cec_adapter *adapter, uint8_t handle)
     return after.error;
 }
 
-/* CEC_S_MODE: an initiator part and a follower part. EBADF, EINVAL, EPERM (monitor without privilege), EBUSY (exclusive role held). */
+/* CEC_S_MODE: an initiator part and a follower part. EBADF, EINVAL. EPERM: monitor without privilege. EBUSY: another holds the exclusive role. */
 static inline uint32_t cec_set_mode(struct cec_adapter *adapter, uint8_t handle, uint32_t mode)
 {
     struct cec_after after = cec_adapter_set_mode(*adapter, handle, mode);
@@ -272,8 +275,9 @@ static inline uint32_t cec_set_mode(struct cec_adapter *adapter, uint8_t handle,
 }
 
 /*
- * CEC_TRANSMIT of a handle that does not block: queues a message under a sequence number. Its result, and its reply if
- * one is wanted, come to the inbox of this handle alone. EBADF, ENOTTY, EPERM, EBUSY, EINVAL, ENONET.
+ * CEC_TRANSMIT of a handle that does not block: queues a message under a sequence number, with tx_status 0. Its result, and
+ * its reply if one is wanted, come to the inbox of this handle alone. A poll to an own address is not queued: its answer has
+ * CEC_TX_STATUS_NACK at once. EBADF, ENOTTY, EPERM, EBUSY, EINVAL, ENONET.
  */
 static inline struct cec_transmit_answer cec_transmit(struct cec_adapter *adapter, uint8_t handle, struct cec_request request)
 {
@@ -282,7 +286,7 @@ static inline struct cec_transmit_answer cec_transmit(struct cec_adapter *adapte
     return after.answer;
 }
 
-/* CEC_RECEIVE of a handle that does not block: gives the oldest entry of the inbox and takes it out. EBADF, EAGAIN. */
+/* CEC_RECEIVE of a handle that does not block: gives the oldest entry of the inbox and takes it out. EBADF. EAGAIN: there is none. */
 static inline struct cec_receive_answer cec_receive(struct cec_adapter *adapter, uint8_t handle)
 {
     struct cec_after_receive after = cec_adapter_receive(*adapter, handle);
@@ -290,7 +294,7 @@ static inline struct cec_receive_answer cec_receive(struct cec_adapter *adapter,
     return after.answer;
 }
 
-/* The driver asks what to send next: the oldest message of the queue, which is on the wire from now on. EBUSY, EAGAIN. */
+/* The driver asks what to send: the oldest message of the queue, on the wire from now on. EBUSY: the wire is taken. EAGAIN: nothing is queued. */
 static inline struct cec_bus_start_answer cec_bus_start(struct cec_adapter *adapter)
 {
     struct cec_after_bus_start after = cec_adapter_bus_start(*adapter);
@@ -298,7 +302,10 @@ static inline struct cec_bus_start_answer cec_bus_start(struct cec_adapter *adap
     return after.answer;
 }
 
-/* The driver says how the message on the wire ended: CEC_TX_STATUS_ bits, and how often each thing went wrong. EINVAL. */
+/*
+ * The driver says how the message on the wire ended: exactly one of CEC_TX_STATUS_OK, _MAX_RETRIES, _ABORTED and _TIMEOUT,
+ * others beside it, and how often each thing went wrong. EINVAL: any other status, or nothing on the wire.
+ */
 static inline uint32_t cec_bus_result(struct cec_adapter *adapter, uint8_t status, struct cec_counts counts)
 {
     struct cec_after after = cec_adapter_bus_result(*adapter, status, counts);
@@ -322,7 +329,7 @@ static inline uint32_t cec_time_passed(struct cec_adapter *adapter, uint32_t ms)
     return after.error;
 }
 
-/* Sets the physical address, the own logical addresses and what the core answers of the box. EBUSY (configured already), EINVAL. */
+/* Sets the physical address, the own logical addresses and what the core answers of the box. EBUSY: it is configured. EINVAL. */
 static inline uint32_t cec_configure(struct cec_adapter *adapter, struct cec_settings settings)
 {
     struct cec_after after = cec_adapter_configure(*adapter, settings);
