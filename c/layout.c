@@ -1,6 +1,6 @@
 /*
- * The structs of clothbadger.h lie in memory as those of the proved code: sizes, alignments, and each field by its name.
- * c/run makes structs.inc: the structs of the Rattle sources, written in C.
+ * The structs and functions of clothbadger.h are those of the proved code: sizes, alignments, the offset and type of each field, and prototypes.
+ * c/run makes structs.inc and prototypes.inc, the structs and exported functions of the Rattle sources in C, and offsets.inc, the layout that is proved.
  */
 #include "clothbadger.h"
 
@@ -10,11 +10,33 @@
     _Static_assert(sizeof(struct ours) == sizeof(struct theirs), "size of " #ours);                \
     _Static_assert(_Alignof(struct ours) == _Alignof(struct theirs), "alignment of " #ours)
 
-#define PLACES(ours, field, theirs, its)                                                                     \
-    _Static_assert(offsetof(struct ours, field) == offsetof(struct theirs, its), "place of " #ours "." #field); \
+#define OFFSETS(ours, field, theirs, its)                                                                     \
+    _Static_assert(offsetof(struct ours, field) == offsetof(struct theirs, its), "offset of " #ours "." #field); \
     _Static_assert(sizeof(((struct ours *)0)->field) == sizeof(((struct theirs *)0)->its), "size of " #ours "." #field)
 
-#define SAME(ours, theirs, field) PLACES(ours, field, theirs, field)
+/* A number or an array of numbers: its type is the same too. */
+#define NUMBERS(ours, field, theirs, its)                                                                       \
+    OFFSETS(ours, field, theirs, its);                                                                            \
+    _Static_assert(_Generic(&((struct ours *)0)->field, __typeof__(&((struct theirs *)0)->its): 1, default: 0), \
+                   "type of " #ours "." #field)
+
+#define SAME(ours, theirs, field) NUMBERS(ours, field, theirs, field)
+#define SAME_STRUCT(ours, theirs, field) OFFSETS(ours, field, theirs, field)
+
+/* What Structs.antt states of the structs: the compiler lays them out so. */
+#define PROVED_OFFSET(theirs, field, at) \
+    _Static_assert(offsetof(struct theirs, field) == at, "Structs.antt: offset of " #theirs "." #field)
+
+#define PROVED_SIZE(theirs, bytes, alignment) \
+    _Static_assert(sizeof(struct theirs) == bytes && _Alignof(struct theirs) == alignment, "Structs.antt: size of " #theirs)
+
+#include "offsets.inc"
+
+/* The functions have the types of the exported ones. */
+#define PROTOTYPE(name, result, ...) \
+    _Static_assert(_Generic(&name, result (*)(__VA_ARGS__): 1, default: 0), "prototype of " #name)
+
+#include "prototypes.inc"
 
 SIZES(cec_adapter, adapter_Adapter);
 
@@ -32,8 +54,8 @@ SIZES(cec_entry, entry_Entry);
 SAME(cec_entry, entry_Entry, sequence);
 SAME(cec_entry, entry_Entry, tx_status);
 SAME(cec_entry, entry_Entry, rx_status);
-SAME(cec_entry, entry_Entry, message);
-SAME(cec_entry, entry_Entry, counts);
+SAME_STRUCT(cec_entry, entry_Entry, message);
+SAME_STRUCT(cec_entry, entry_Entry, counts);
 
 SIZES(cec_request, transmit_Request);
 SAME(cec_request, transmit_Request, length);
@@ -64,26 +86,26 @@ SAME(cec_lookup_answer, rows_Noted, error);
 SAME(cec_lookup_answer, rows_Noted, address);
 
 SIZES(cec_after, adapter_Done);
-SAME(cec_after, adapter_Done, adapter);
+SAME_STRUCT(cec_after, adapter_Done, adapter);
 SAME(cec_after, adapter_Done, error);
 
 SIZES(cec_after_open, adapter_Opened);
-SAME(cec_after_open, adapter_Opened, adapter);
-PLACES(cec_after_open, answer.error, adapter_Opened, error);
-PLACES(cec_after_open, answer.handle, adapter_Opened, handle);
+SAME_STRUCT(cec_after_open, adapter_Opened, adapter);
+NUMBERS(cec_after_open, answer.error, adapter_Opened, error);
+NUMBERS(cec_after_open, answer.handle, adapter_Opened, handle);
 
 SIZES(cec_after_transmit, adapter_Transmitted);
-SAME(cec_after_transmit, adapter_Transmitted, adapter);
-PLACES(cec_after_transmit, answer.error, adapter_Transmitted, error);
-PLACES(cec_after_transmit, answer.sequence, adapter_Transmitted, number);
-PLACES(cec_after_transmit, answer.tx_status, adapter_Transmitted, tx_status);
+SAME_STRUCT(cec_after_transmit, adapter_Transmitted, adapter);
+NUMBERS(cec_after_transmit, answer.error, adapter_Transmitted, error);
+NUMBERS(cec_after_transmit, answer.sequence, adapter_Transmitted, number);
+NUMBERS(cec_after_transmit, answer.tx_status, adapter_Transmitted, tx_status);
 
 SIZES(cec_after_receive, adapter_Received);
-SAME(cec_after_receive, adapter_Received, adapter);
-PLACES(cec_after_receive, answer.error, adapter_Received, error);
-PLACES(cec_after_receive, answer.entry, adapter_Received, entry);
+SAME_STRUCT(cec_after_receive, adapter_Received, adapter);
+NUMBERS(cec_after_receive, answer.error, adapter_Received, error);
+OFFSETS(cec_after_receive, answer.entry, adapter_Received, entry);
 
 SIZES(cec_after_bus_start, adapter_Started);
-SAME(cec_after_bus_start, adapter_Started, adapter);
-PLACES(cec_after_bus_start, answer.error, adapter_Started, error);
-PLACES(cec_after_bus_start, answer.message, adapter_Started, message);
+SAME_STRUCT(cec_after_bus_start, adapter_Started, adapter);
+NUMBERS(cec_after_bus_start, answer.error, adapter_Started, error);
+OFFSETS(cec_after_bus_start, answer.message, adapter_Started, message);

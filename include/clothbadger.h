@@ -4,13 +4,14 @@
  *
  * The caller owes:
  *  - an adapter that came from cec_adapter_new() and that only these calls changed;
- *  - pointers that are not null, also where a length is 0, and that do not overlap;
+ *  - pointers that are not null, also where a length is 0, that do not overlap, and that have as many
+ *    rows or bytes behind them as the count or length says;
  *  - rows lent to cec_listing() that are rows: zeroed, or filled by an earlier listing;
  *  - one call at a time on an adapter: there is no lock in it.
- * Everything else is tested by the calls: any handle, mode, message, status, number.
+ * Every other value of an argument is tested by the calls. C itself cuts a number that is too wide: 256 as a handle is 0.
  *
  * An error is a number of Linux's errno.h, 0 for success. A call that is refused changes nothing, and
- * gives nothing but its error.
+ * gives nothing but its error: a handle, an entry or a number in its answer means nothing.
  */
 #ifndef CLOTHBADGER_H
 #define CLOTHBADGER_H
@@ -109,13 +110,16 @@ struct cec_adapter {
 CLOTHBADGER_STATIC_ASSERT(sizeof(struct cec_adapter) == CLOTHBADGER_ADAPTER_SIZE, "size of an adapter");
 CLOTHBADGER_STATIC_ASSERT(CLOTHBADGER_ALIGNOF(struct cec_adapter) == 8, "alignment of an adapter");
 
-/* A message: the first byte is initiator and destination, the second the opcode. Bytes past the length are 0. */
+/*
+ * A message: the first byte is initiator and destination, the second the opcode.
+ * Bytes past the length are 0 in what a call gives, and ignored in what it takes.
+ */
 struct cec_message {
     uint8_t length;
     uint8_t bytes[16];
 };
 
-/* How often each thing went wrong on the wire. */
+/* How often arbitration was lost, and NACK, low drive and other errors came. A count whose status bit is clear is stored as 0. */
 struct cec_counts {
     uint8_t arb_lost;
     uint8_t nack;
@@ -123,7 +127,10 @@ struct cec_counts {
     uint8_t error;
 };
 
-/* What an inbox holds: a transmit result (tx_status not 0), a reply (rx_status not 0), or a copy (sequence 0). */
+/*
+ * What an inbox holds. Under a sequence number: the result of that transmit (tx_status not 0), or the end of its wait
+ * (rx_status not 0: reply, Feature Abort, timeout or abort). With sequence 0: a copy for a monitor or a follower.
+ */
 struct cec_entry {
     uint32_t sequence;
     uint8_t tx_status;
@@ -133,8 +140,8 @@ struct cec_entry {
 };
 
 /*
- * A transmit: the message, the opcode of the reply that is wanted, the milliseconds to wait for it, and flags.
- * A reply is wanted if reply or timeout is not 0; timeout 0 then means 1000.
+ * A transmit: the message, the opcode of the reply that is wanted, the milliseconds to wait for it once the transmit's
+ * result has come, and flags. A reply is wanted if reply or timeout is not 0; timeout 0 then means 1000.
  */
 struct cec_request {
     uint8_t length;
@@ -146,7 +153,7 @@ struct cec_request {
 
 /*
  * What cec_configure() sets: a physical address other than CEC_PHYS_ADDR_INVALID, 1 to 4 own logical addresses (bit n of the
- * mask is address n, 0 to 14), a CEC_OP_CEC_VERSION_, a CEC_OP_PRIM_DEVTYPE_, a vendor id of 24 bits, an OSD name of 1 to 14 bytes.
+ * mask is address n, 0 to 14), CEC_OP_CEC_VERSION_1_3A or _1_4, a CEC_OP_PRIM_DEVTYPE_, a vendor id of 24 bits, an OSD name of 1 to 14 bytes.
  */
 struct cec_settings {
     uint16_t physical_address;
@@ -158,7 +165,7 @@ struct cec_settings {
     uint8_t name[14];
 };
 
-/* A row of the listing: a handle, its entries, the room that is owed to it, and the copies that it lost. */
+/* A row of the listing: a handle, how many entries it has, the room that it owes, and how many copies it lost. */
 struct cec_row {
     uint8_t number;
     bool is_open;
@@ -222,11 +229,16 @@ struct cec_after_bus_start {
 };
 
 /*
- * The proved functions. Each takes the adapter by value and gives back the one after the call.
+ * The proved functions. Those that change the adapter take it by value and give back the one after the call.
  * The forms below them, with a pointer, are what a program calls.
  */
+
+/* A fresh adapter, with or without CEC_CAP_TRANSMIT and CEC_CAP_MONITOR_ALL: not configured, all handles closed. */
 struct cec_adapter cec_adapter_new(bool can_transmit, bool can_monitor_all);
+
+/* sizeof(struct cec_adapter), as the proved code has it. */
 size_t cec_adapter_size(void);
+
 struct cec_after_open cec_adapter_open(struct cec_adapter adapter, bool privileged);
 struct cec_after cec_adapter_close(struct cec_adapter adapter, uint8_t handle);
 struct cec_after cec_adapter_set_mode(struct cec_adapter adapter, uint8_t handle, uint32_t mode);
@@ -244,7 +256,9 @@ struct cec_lookup_answer cec_adapter_lookup(struct cec_adapter adapter, uint8_t 
 /*
  * Whether the received bytes are the reply to the sent bytes, with the opcode
  * wanted as the reply: 1 for a match, 0 for none. Each message is a pointer and
- * a length; any length is taken, and one under 2 or over 16 is no match.
+ * a length; any length is taken, and one under 2 or over 16 is no match. A Feature
+ * Abort of the sent opcode matches too; where CEC_MSG_INITIATE_ARC wants one of the
+ * two ARC reports, either does.
  */
 uint8_t cec_reply_match(const uint8_t *sent, size_t sent_length,
                         const uint8_t *received, size_t received_length,
@@ -258,7 +272,7 @@ static inline struct cec_open_answer cec_open(struct cec_adapter *adapter, bool 
     return after.answer;
 }
 
-/* Closes a handle: its inbox and its waits are gone, and messages that it queued are sent without a result. EBADF. */
+/* Closes a handle: its mode, inbox and waits are gone; its messages, queued or on the wire, stay there and bring no result or reply. EBADF. */
 static inline uint32_t cec_close(struct cec_adapter *adapter, uint8_t handle)
 {
     struct cec_after after = cec_adapter_close(*adapter, handle);
@@ -276,7 +290,8 @@ static inline uint32_t cec_set_mode(struct cec_adapter *adapter, uint8_t handle,
 
 /*
  * CEC_TRANSMIT of a handle that does not block: queues a message under a sequence number, with tx_status 0. Its result, and
- * its reply if one is wanted, come to the inbox of this handle alone. A poll to an own address is not queued: its answer has
+ * its reply if one is wanted, come under that number to the inbox of this handle alone; monitors, and followers if
+ * CEC_MSG_FL_REPLY_TO_FOLLOWERS is set, get copies with sequence 0. A poll to an own address is not queued: its answer has
  * CEC_TX_STATUS_NACK at once. EBADF, ENOTTY, EPERM, EBUSY, EINVAL, ENONET.
  */
 static inline struct cec_transmit_answer cec_transmit(struct cec_adapter *adapter, uint8_t handle, struct cec_request request)
@@ -321,7 +336,7 @@ static inline uint32_t cec_received(struct cec_adapter *adapter, struct cec_mess
     return after.error;
 }
 
-/* Milliseconds passed: waits for a reply end with CEC_RX_STATUS_TIMEOUT. Always 0. */
+/* Milliseconds passed: each wait for a reply with no more than that left ends with CEC_RX_STATUS_TIMEOUT. Always 0. */
 static inline uint32_t cec_time_passed(struct cec_adapter *adapter, uint32_t ms)
 {
     struct cec_after after = cec_adapter_time_passed(*adapter, ms);
@@ -329,7 +344,7 @@ static inline uint32_t cec_time_passed(struct cec_adapter *adapter, uint32_t ms)
     return after.error;
 }
 
-/* Sets the physical address, the own logical addresses and what the core answers of the box. EBUSY: it is configured. EINVAL. */
+/* Sets the physical address, the own logical addresses and what the core answers about this device. EBUSY: it is configured. EINVAL. */
 static inline uint32_t cec_configure(struct cec_adapter *adapter, struct cec_settings settings)
 {
     struct cec_after after = cec_adapter_configure(*adapter, settings);
@@ -337,7 +352,10 @@ static inline uint32_t cec_configure(struct cec_adapter *adapter, struct cec_set
     return after.error;
 }
 
-/* Takes the addresses away: all transmits and waits end with CEC_TX_STATUS_ABORTED or CEC_RX_STATUS_ABORTED. Always 0. */
+/*
+ * Clears the addresses, noted ones too, and the other settings: all transmits and waits end, with CEC_TX_STATUS_ABORTED or
+ * CEC_RX_STATUS_ABORTED. Always 0.
+ */
 static inline uint32_t cec_unconfigure(struct cec_adapter *adapter)
 {
     struct cec_after after = cec_adapter_unconfigure(*adapter);

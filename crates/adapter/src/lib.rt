@@ -138,7 +138,7 @@ impl Adapter {
         ensures { λ r. ⌜ startedOf r ≡ step (stateOf self) callBusStart ⌝ }
         ensures { λ r. ⌜ (r .errno ≢ 0 → r .adapter ≡ self) ⌝ }
     {
-        let answer = bus::start::bus_start(self.parts);
+        let answer = bus_start::bus_start(self.parts);
         let parts = answer.parts;
         let message = answer.message;
         Started {
@@ -152,7 +152,7 @@ impl Adapter {
         ensures { λ r. ⌜ doneOf r ≡ step (stateOf self) (callBusResult status counts) ⌝ }
         ensures { λ r. ⌜ (r .errno ≢ 0 → r .adapter ≡ self) ⌝ }
     {
-        of_done(bus::result::bus_result(self.parts, status, counts))
+        of_done(bus_result::bus_result(self.parts, status, counts))
     }
 
     // A message came from the wire.
@@ -174,13 +174,13 @@ impl Adapter {
         ensures { λ r. ⌜ doneOf r ≡ step (stateOf self) (callConfigure settings) ⌝ }
         ensures { λ r. ⌜ (r .errno ≢ 0 → r .adapter ≡ self) ⌝ }
     {
-        of_done(configuration::configure::configure(self.parts, settings))
+        of_done(configure::configure(self.parts, settings))
     }
 
     pub fn unconfigure(self) -> Done
         ensures { λ r. ⌜ doneOf r ≡ step (stateOf self) callUnconfigure ⌝ }
     {
-        of_done(configuration::unconfigure::unconfigure(self.parts))
+        of_done(unconfigure::unconfigure(self.parts))
     }
 
     // The handle's row in the listing; crate `listing` fills a lent table with them.

@@ -1,5 +1,5 @@
--- How the structs that C sees lie in memory: the fields in their order, the place of each, the size and the alignment. `include/clothbadger.h` declares the same.
--- A field that moves, or another size, is refused here.
+-- The layout of the structs that C sees: the fields in their order, the offset of each, the size and the alignment. A field that moves, or another size, is refused here;
+-- `c/run` compares the numbers with those of the C compiler and of `include/clothbadger.h`.
 -- Assumes nothing.
 use Prim.Native.Nat.{ℕ, _+_}
 use mathlib.Core.List.{List, [], _∷_}
@@ -35,61 +35,61 @@ use Rattle.transmit.proofs.request.Request as Request
 use Rattle.transmit.proofs.request.Request.Laws as Request′
 
 -- where these fields begin, if what stands before them ends at e
-abbrev placesFrom : ℕ → Tys → List ℕ
-placesFrom e tnil = []
-placesFrom e (tcons τ τs) = up (align τ) e ∷ placesFrom (up (align τ) e + size τ) τs
+abbrev offsetsFrom : ℕ → Tys → List ℕ
+offsetsFrom e tnil = []
+offsetsFrom e (tcons τ τs) = up (align τ) e ∷ offsetsFrom (up (align τ) e + size τ) τs
 
 -- only a struct has fields
-abbrev places : Ty → List ℕ
-places (tyInt w) = []
-places tyBool = []
-places (tyFloat f) = []
-places tyPtr = []
-places (tyRef κ μ τ) = []
-places (tyArray τ n) = []
-places tyUnit = []
-places (tyStruct ν τs) = placesFrom 0 τs
-places (tyEnum ν τss) = []
-places (tyNamed ν) = []
+abbrev offsets : Ty → List ℕ
+offsets (tyInt w) = []
+offsets tyBool = []
+offsets (tyFloat f) = []
+offsets tyPtr = []
+offsets (tyRef κ μ τ) = []
+offsets (tyArray τ n) = []
+offsets tyUnit = []
+offsets (tyStruct ν τs) = offsetsFrom 0 τs
+offsets (tyEnum ν τss) = []
+offsets (tyNamed ν) = []
 
-abbrev Lies : (s : Record) → Ty → (s .D → Values (s .parts)) → List ℕ → ℕ → ℕ → Type 0
-Lies s τ fields at bytes alignment = ((d : s .D) → s .as-values d ≡ fields d) × ((places τ ≡ at) × ((size τ ≡ bytes) × (align τ ≡ alignment)))
+abbrev HasLayout : (s : Record) → Ty → (s .D → Values (s .parts)) → List ℕ → ℕ → ℕ → Type 0
+HasLayout s τ fields at bytes aligned = ((d : s .D) → s .as-values d ≡ fields d) × ((offsets τ ≡ at) × ((size τ ≡ bytes) × (align τ ≡ aligned)))
 
 adapter : (size Adapter′.mir ≡ 5472) × (align Adapter′.mir ≡ 8)
 adapter = (refl, refl)
 
-message : Lies Message.struct Message′.mir (λ d. (d .length, (d .bytes, tt))) (0 ∷ 1 ∷ []) 17 1
+message : HasLayout Message.struct Message′.mir (λ d. (d .length, (d .bytes, tt))) (0 ∷ 1 ∷ []) 17 1
 message = (λ d. refl, (refl, (refl, refl)))
 
-counts : Lies Counts.struct Counts′.mir (λ d. (d .«arb_lost», (d .nack, (d .«low_drive», (d .error, tt))))) (0 ∷ 1 ∷ 2 ∷ 3 ∷ []) 4 1
+counts : HasLayout Counts.struct Counts′.mir (λ d. (d .«arb_lost», (d .nack, (d .«low_drive», (d .error, tt))))) (0 ∷ 1 ∷ 2 ∷ 3 ∷ []) 4 1
 counts = (λ d. refl, (refl, (refl, refl)))
 
-entry : Lies Entry.struct Entry′.mir (λ d. (d .sequence, (d .«tx_status», (d .«rx_status», (d .message, (d .counts, tt)))))) (0 ∷ 4 ∷ 5 ∷ 6 ∷ 23 ∷ []) 28 4
+entry : HasLayout Entry.struct Entry′.mir (λ d. (d .sequence, (d .«tx_status», (d .«rx_status», (d .message, (d .counts, tt)))))) (0 ∷ 4 ∷ 5 ∷ 6 ∷ 23 ∷ []) 28 4
 entry = (λ d. refl, (refl, (refl, refl)))
 
-request : Lies Request.struct Request′.mir (λ d. (d .length, (d .bytes, (d .reply, (d .timeout, (d .flags, tt)))))) (0 ∷ 1 ∷ 17 ∷ 20 ∷ 24 ∷ []) 28 4
+request : HasLayout Request.struct Request′.mir (λ d. (d .length, (d .bytes, (d .reply, (d .timeout, (d .flags, tt)))))) (0 ∷ 1 ∷ 17 ∷ 20 ∷ 24 ∷ []) 28 4
 request = (λ d. refl, (refl, (refl, refl)))
 
-settings : Lies Settings.struct Settings′.mir (λ d. (d .«physical_address», (d .mask, (d .version, (d .«device_type», (d .«vendor_id», (d .«name_length», (d .name, tt)))))))) (0 ∷ 2 ∷ 4 ∷ 5 ∷ 8 ∷ 12 ∷ 13 ∷ []) 28 4
+settings : HasLayout Settings.struct Settings′.mir (λ d. (d .«physical_address», (d .mask, (d .version, (d .«device_type», (d .«vendor_id», (d .«name_length», (d .name, tt)))))))) (0 ∷ 2 ∷ 4 ∷ 5 ∷ 8 ∷ 12 ∷ 13 ∷ []) 28 4
 settings = (λ d. refl, (refl, (refl, refl)))
 
-row : Lies Row.struct Row′.mir (λ d. (d .number, (d .«is_open», (d .mode, (d .entries, (d .owed, (d .lost, tt))))))) (0 ∷ 1 ∷ 4 ∷ 8 ∷ 12 ∷ 16 ∷ []) 20 4
+row : HasLayout Row.struct Row′.mir (λ d. (d .number, (d .«is_open», (d .mode, (d .entries, (d .owed, (d .lost, tt))))))) (0 ∷ 1 ∷ 4 ∷ 8 ∷ 12 ∷ 16 ∷ []) 20 4
 row = (λ d. refl, (refl, (refl, refl)))
 
-noted : Lies Noted.struct Noted′.mir (λ d. (d .errno, (d .address, tt))) (0 ∷ 4 ∷ []) 8 4
+noted : HasLayout Noted.struct Noted′.mir (λ d. (d .errno, (d .address, tt))) (0 ∷ 4 ∷ []) 8 4
 noted = (λ d. refl, (refl, (refl, refl)))
 
-done : Lies Done.struct Done′.mir (λ d. (d .adapter, (d .errno, tt))) (0 ∷ 5472 ∷ []) 5480 8
+done : HasLayout Done.struct Done′.mir (λ d. (d .adapter, (d .errno, tt))) (0 ∷ 5472 ∷ []) 5480 8
 done = (λ d. refl, (refl, (refl, refl)))
 
-opened : Lies Opened.struct Opened′.mir (λ d. (d .adapter, (d .errno, (d .handle, tt)))) (0 ∷ 5472 ∷ 5476 ∷ []) 5480 8
+opened : HasLayout Opened.struct Opened′.mir (λ d. (d .adapter, (d .errno, (d .handle, tt)))) (0 ∷ 5472 ∷ 5476 ∷ []) 5480 8
 opened = (λ d. refl, (refl, (refl, refl)))
 
-transmitted : Lies Transmitted.struct Transmitted′.mir (λ d. (d .adapter, (d .errno, (d .number, (d .«tx_status», tt))))) (0 ∷ 5472 ∷ 5476 ∷ 5480 ∷ []) 5488 8
+transmitted : HasLayout Transmitted.struct Transmitted′.mir (λ d. (d .adapter, (d .errno, (d .number, (d .«tx_status», tt))))) (0 ∷ 5472 ∷ 5476 ∷ 5480 ∷ []) 5488 8
 transmitted = (λ d. refl, (refl, (refl, refl)))
 
-received : Lies Received.struct Received′.mir (λ d. (d .adapter, (d .errno, (d .entry, tt)))) (0 ∷ 5472 ∷ 5476 ∷ []) 5504 8
+received : HasLayout Received.struct Received′.mir (λ d. (d .adapter, (d .errno, (d .entry, tt)))) (0 ∷ 5472 ∷ 5476 ∷ []) 5504 8
 received = (λ d. refl, (refl, (refl, refl)))
 
-started : Lies Started.struct Started′.mir (λ d. (d .adapter, (d .errno, (d .message, tt)))) (0 ∷ 5472 ∷ 5476 ∷ []) 5496 8
+started : HasLayout Started.struct Started′.mir (λ d. (d .adapter, (d .errno, (d .message, tt)))) (0 ∷ 5472 ∷ 5476 ∷ []) 5496 8
 started = (λ d. refl, (refl, (refl, refl)))

@@ -1,4 +1,4 @@
-// The calls of the adapter for programs in C (include/clothbadger.h): each takes the adapter by value, and its promise is that of the call in crate `adapter`.
+// The calls of the adapter for programs in C (include/clothbadger.h): each takes the adapter by value, and its promise is that of the call in crate `adapter` or `listing`.
 ghost use mathlib.Core.Logic.{_≢_};
 ghost use mathlib.Core.Path.{_≡_};
 ghost use prog.Memory.{size};

@@ -1,2 +1,0 @@
-pub mod Concluded
-pub mod Masks
