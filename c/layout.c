@@ -57,12 +57,12 @@ SAME(cec_entry, entry_Entry, rx_status);
 SAME_STRUCT(cec_entry, entry_Entry, message);
 SAME_STRUCT(cec_entry, entry_Entry, counts);
 
-SIZES(cec_request, transmit_Request);
-SAME(cec_request, transmit_Request, length);
-SAME(cec_request, transmit_Request, bytes);
-SAME(cec_request, transmit_Request, reply);
-SAME(cec_request, transmit_Request, timeout);
-SAME(cec_request, transmit_Request, flags);
+SIZES(cec_request, request_Request);
+SAME(cec_request, request_Request, length);
+SAME(cec_request, request_Request, bytes);
+SAME(cec_request, request_Request, reply);
+SAME(cec_request, request_Request, timeout);
+SAME(cec_request, request_Request, flags);
 
 SIZES(cec_settings, settings_Settings);
 SAME(cec_settings, settings_Settings, physical_address);

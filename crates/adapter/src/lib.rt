@@ -2,20 +2,20 @@
 ghost use mathlib.Core.Logic.{_≢_};
 ghost use mathlib.Core.Path.{_≡_};
 ghost use Rattle.adapter.specs.Adapter.{stateOf, doneOf, openedOf, transmittedOf, receivedOf, startedOf};
+ghost use Rattle.request.specs.Request.{requestOf};
 ghost use Rattle.rows.specs.Noted.{notedOf};
 ghost use Rattle.rules.specs.Call.{callOpen, callClose, callMode, callTransmit, callReceive, callBusStart, callBusResult, callMessage, callTime, callConfigure, callUnconfigure, callLookup};
 ghost use Rattle.rules.specs.Listing.{rowOf};
 ghost use Rattle.rules.specs.State.{fresh};
 ghost use Rattle.rules.specs.Step.{step};
-ghost use Rattle.transmit.specs.Request.{requestOf};
 use entry::Counts;
 use entry::Entry;
 use handle::Row;
 use message::Message;
 use parts::Parts;
+use request::Request;
 use rows::Noted;
 use settings::Settings;
-use transmit::request::Request;
 
 #[repr(C)]
 pub struct Adapter {

@@ -31,8 +31,8 @@ use Rattle.rows.proofs.Noted as Noted
 use Rattle.rows.proofs.Noted.Laws as Noted′
 use Rattle.settings.proofs.Settings as Settings
 use Rattle.settings.proofs.Settings.Laws as Settings′
-use Rattle.transmit.proofs.request.Request as Request
-use Rattle.transmit.proofs.request.Request.Laws as Request′
+use Rattle.request.proofs.Request as Request
+use Rattle.request.proofs.Request.Laws as Request′
 
 -- where these fields begin, if what stands before them ends at e
 abbrev offsetsFrom : ℕ → Tys → List ℕ

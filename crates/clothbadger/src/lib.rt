@@ -2,17 +2,17 @@
 ghost use mathlib.Core.Logic.{_≢_};
 ghost use mathlib.Core.Path.{_≡_};
 ghost use prog.Memory.{size};
-ghost use Rattle.adapter.specs.Adapter.{stateOf, doneOf, openedOf, transmittedOf, receivedOf, startedOf};
 ghost use Rattle.adapter.proofs.Adapter.Laws as adapter-laws;
+ghost use Rattle.adapter.specs.Adapter.{stateOf, doneOf, openedOf, transmittedOf, receivedOf, startedOf};
 ghost use Rattle.listing.specs.Rows.{listedOf};
 ghost use Rattle.lists.specs.Tests.{bit};
 ghost use Rattle.message.specs.Reply.{isReply};
+ghost use Rattle.request.specs.Request.{requestOf};
 ghost use Rattle.rows.specs.Noted.{notedOf};
 ghost use Rattle.rules.specs.Call.{callOpen, callClose, callMode, callTransmit, callReceive, callBusStart, callBusResult, callMessage, callTime, callConfigure, callUnconfigure, callListing, callLookup};
 ghost use Rattle.rules.specs.Listing.{rowsAfter};
 ghost use Rattle.rules.specs.State.{fresh};
 ghost use Rattle.rules.specs.Step.{step};
-ghost use Rattle.transmit.specs.Request.{requestOf};
 use adapter::Adapter;
 use adapter::Done;
 use adapter::Opened;
@@ -22,9 +22,9 @@ use adapter::Transmitted;
 use entry::Counts;
 use handle::Row;
 use message::Message;
+use request::Request;
 use rows::Noted;
 use settings::Settings;
-use transmit::request::Request;
 
 #[no_mangle]
 pub extern "C" fn cec_adapter_new(can_transmit: bool, can_monitor_all: bool) -> Adapter

@@ -4,10 +4,10 @@ ghost use mathlib.Core.List.{[], _∷_};
 ghost use lib.ListN.{take, drop};
 ghost use Rattle.log.specs.Record.{numberAt};
 ghost use Rattle.fields.specs.Fields.{requestIn, countsIn, settingsIn};
-ghost use Rattle.transmit.specs.Request.{requestOf};
+ghost use Rattle.request.specs.Request.{requestOf};
 use entry::Counts;
+use request::Request;
 use settings::Settings;
-use transmit::request::Request;
 
 fn number_2(b0: u8, b1: u8) -> u16
     ensures { λ r. ⌜ r ≡ numberAt (b0 ∷ b1 ∷ []) 0 2 ⌝ }

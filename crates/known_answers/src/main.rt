@@ -3,8 +3,8 @@ use adapter::Adapter;
 use constants::CEC_TX_STATUS_OK;
 use entry::Counts;
 use queue::Queue;
+use request::Request;
 use settings::Settings;
-use transmit::request::Request;
 use waits::Waits;
 use wire::Wire;
 

@@ -3,7 +3,7 @@ use adapter::Adapter;
 use constants::CEC_LOG_ADDR_UNREGISTERED;
 use constants::CEC_TX_STATUS_OK;
 use entry::Counts;
-use transmit::request::Request;
+use request::Request;
 
 const ROUNDS: u32 = 10000;
 

@@ -14,8 +14,8 @@ use constants::CEC_TX_STATUS_OK;
 use entry::Counts;
 use entry::Entry;
 use handle::Row;
+use request::Request;
 use settings::Settings;
-use transmit::request::Request;
 
 // The display and the amplifier on the wire, and the address of the box.
 const DISPLAY: u8 = 0;

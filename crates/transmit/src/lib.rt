@@ -3,11 +3,9 @@ ghost use Prim.Native.Nat.{_≤_};
 ghost use mathlib.Core.Logic.{_≢_};
 ghost use mathlib.Core.Path.{_≡_};
 ghost use Rattle.parts.specs.Parts.{stateOf};
+ghost use Rattle.request.specs.Request.{requestOf};
 ghost use Rattle.rules.specs.Transmit.{isMisaddressed, isSelfPoll, isFull, transmitRefusal, transmissionOf, newRoom, doTransmit};
-ghost use Rattle.transmit.specs.Request.{requestOf, transmittedOf};
-
-pub mod request;
-
+ghost use Rattle.transmit.specs.Transmitted.{transmittedOf};
 use constants::CEC_LOG_ADDR_UNREGISTERED;
 use constants::CEC_MODE_NO_INITIATOR;
 use constants::CEC_MSG_FL_REPLY_TO_FOLLOWERS;

@@ -6,7 +6,7 @@ use Rattle.parts.proofs.Outcomes.{refused-outcome, taken-outcome}
 use Rattle.parts.specs.Parts.{stateOf}
 use Rattle.rules.specs.Transmit.{doTransmit}
 use Rattle.transmit.proofs.Ends.{polled-outcome, queued-outcome}
-use Rattle.transmit.specs.Request.{requestOf}
+use Rattle.request.specs.Request.{requestOf}
 use Rattle.transmit.proofs.transmit.Statement.{statement}
 use Rattle.transmit.proofs.transmit.Tie as tie
 

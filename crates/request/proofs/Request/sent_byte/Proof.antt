@@ -1,10 +1,10 @@
--- `transmit::request::Request::sent_byte` meets its contract. Assumes nothing.
+-- `request::Request::sent_byte` meets its contract. Assumes nothing.
 use mathlib.Core.Path.{sym}
 use native.Mathlib.Omega.{arith}
 use borrow.Author.Needs.{needs}
-use Rattle.transmit.proofs.Sent.{sent-past, sent-within, request-long}
-use Rattle.transmit.proofs.request.Request.sent_byte.Statement.{statement}
-use Rattle.transmit.proofs.request.Request.sent_byte.Tie as tie
+use Rattle.request.proofs.Sent.{sent-past, sent-within, request-long}
+use Rattle.request.proofs.Request.sent_byte.Statement.{statement}
+use Rattle.request.proofs.Request.sent_byte.Tie as tie
 
 cast-if1 : tie.Need-cast-if1
 cast-if1 c = search needs

@@ -1,7 +1,7 @@
--- `transmit::request::Request::is_wake_up` meets its contract. Assumes nothing.
+-- `request::Request::is_wake_up` meets its contract. Assumes nothing.
 use borrow.Author.Needs.{needs}
-use Rattle.transmit.proofs.request.Request.is_wake_up.Statement.{statement}
-use Rattle.transmit.proofs.request.Request.is_wake_up.Tie as tie
+use Rattle.request.proofs.Request.is_wake_up.Statement.{statement}
+use Rattle.request.proofs.Request.is_wake_up.Tie as tie
 
 sent-byte-requires : tie.Need-sent-byte-requires
 sent-byte-requires c κs = search needs

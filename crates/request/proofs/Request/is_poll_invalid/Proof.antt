@@ -1,7 +1,7 @@
--- `transmit::request::Request::is_poll_invalid` meets its contract. Assumes nothing.
+-- `request::Request::is_poll_invalid` meets its contract. Assumes nothing.
 use borrow.Author.Needs.{needs}
-use Rattle.transmit.proofs.request.Request.is_poll_invalid.Statement.{statement}
-use Rattle.transmit.proofs.request.Request.is_poll_invalid.Tie as tie
+use Rattle.request.proofs.Request.is_poll_invalid.Statement.{statement}
+use Rattle.request.proofs.Request.is_poll_invalid.Tie as tie
 
 is-poll-requires : tie.Need-is-poll-requires
 is-poll-requires c κs = search needs

@@ -10,8 +10,8 @@ use mir.Val.{Val}
 use lib.Seq.{getD-take, getD-append-add}
 use Rattle.lists.specs.Elements.{getD-replicated, unmapped}
 use Rattle.message.specs.Message.{message}
-use Rattle.transmit.proofs.request.Request as the
-use Rattle.transmit.specs.declared.request.Request.{Request}
+use Rattle.request.proofs.Request as the
+use Rattle.request.specs.declared.Request.{Request}
 
 -- that a request has 16 bytes is part of what owning it tells
 pub request-long : (r : Request) (vs : List Val) → Is the.the-row r vs → length (r .bytes) ≡ 16

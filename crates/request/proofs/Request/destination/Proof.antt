@@ -1,7 +1,7 @@
--- `transmit::request::Request::destination` meets its contract. Assumes nothing.
+-- `request::Request::destination` meets its contract. Assumes nothing.
 use borrow.Author.Needs.{needs}
-use Rattle.transmit.proofs.request.Request.destination.Statement.{statement}
-use Rattle.transmit.proofs.request.Request.destination.Tie as tie
+use Rattle.request.proofs.Request.destination.Statement.{statement}
+use Rattle.request.proofs.Request.destination.Tie as tie
 
 sent-byte-requires : tie.Need-sent-byte-requires
 sent-byte-requires c κs = search needs

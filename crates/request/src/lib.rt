@@ -2,7 +2,7 @@
 ghost use mathlib.Core.Path.{_≡_};
 ghost use lib.ListN.{getD};
 ghost use Rattle.rules.specs.Transmit.{messageOf, from, to, wantsReply, isPoll, isMalformed, isPollInvalid, isWakeUp, timeoutOf};
-ghost use Rattle.transmit.specs.Request.{requestOf};
+ghost use Rattle.request.specs.Request.{requestOf};
 use constants::CEC_LOG_ADDR_BROADCAST;
 use constants::CEC_LOG_ADDR_UNREGISTERED;
 use constants::CEC_MSG_FL_REPLY_TO_FOLLOWERS;

@@ -1,7 +1,7 @@
--- `transmit::request::Request::timeout_ms` meets its contract. Assumes nothing.
+-- `request::Request::timeout_ms` meets its contract. Assumes nothing.
 use borrow.Author.Needs.{needs}
-use Rattle.transmit.proofs.request.Request.timeout_ms.Statement.{statement}
-use Rattle.transmit.proofs.request.Request.timeout_ms.Tie as tie
+use Rattle.request.proofs.Request.timeout_ms.Statement.{statement}
+use Rattle.request.proofs.Request.timeout_ms.Tie as tie
 
 wants-reply-requires : tie.Need-wants-reply-requires
 wants-reply-requires c κs = search needs

@@ -1,7 +1,7 @@
--- `transmit::request::Request::initiator` meets its contract. Assumes nothing.
+-- `request::Request::initiator` meets its contract. Assumes nothing.
 use borrow.Author.Needs.{needs}
-use Rattle.transmit.proofs.request.Request.initiator.Statement.{statement}
-use Rattle.transmit.proofs.request.Request.initiator.Tie as tie
+use Rattle.request.proofs.Request.initiator.Statement.{statement}
+use Rattle.request.proofs.Request.initiator.Tie as tie
 
 sent-byte-requires : tie.Need-sent-byte-requires
 sent-byte-requires c κs = search needs
