@@ -1,11 +1,14 @@
 -- The adapter as a state, and the answers of its calls as outcomes of the rules (document 01, "The adapter's parts" and "Numbers given back").
 -- Assumes nothing.
+use Prim.Native.Nat.{ℕ}
 use Rattle.adapter.specs.declared.Adapter.{Adapter}
 use Rattle.adapter.specs.declared.Done.{Done}
 use Rattle.adapter.specs.declared.Opened.{Opened}
 use Rattle.adapter.specs.declared.Received.{Received}
 use Rattle.adapter.specs.declared.Started.{Started}
 use Rattle.adapter.specs.declared.Transmitted.{Transmitted}
+use Rattle.entry.specs.Entry.{noEntry}
+use Rattle.message.specs.Message.{noMessage}
 use Rattle.parts.specs.Parts as parts
 use Rattle.parts.specs.Parts.{orRefused}
 use Rattle.rules.specs.Call.{Outcome, finish, done, opened, accepted, received, started}
@@ -28,3 +31,19 @@ receivedOf r = finish (orRefused (r .errno) (received (r .entry))) (stateOf (r .
 
 abbrev pub startedOf : Started → Outcome
 startedOf r = finish (orRefused (r .errno) (started (r .message))) (stateOf (r .adapter))
+
+-- "A refusal returns its number and no other content; nothing changes": the whole answer of a call that is refused is the adapter that came in, the number, and 0 or nothing for what the call gives
+abbrev pub refusedCall : Adapter → ℕ → Done
+refusedCall a errno = record { adapter = a; errno = errno }
+
+abbrev pub refusedOpen : Adapter → ℕ → Opened
+refusedOpen a errno = record { adapter = a; errno = errno; handle = 0 }
+
+abbrev pub refusedTransmit : Adapter → ℕ → Transmitted
+refusedTransmit a errno = record { adapter = a; errno = errno; number = 0; «tx_status» = 0 }
+
+abbrev pub refusedReceive : Adapter → ℕ → Received
+refusedReceive a errno = record { adapter = a; errno = errno; entry = noEntry }
+
+abbrev pub refusedBusStart : Adapter → ℕ → Started
+refusedBusStart a errno = record { adapter = a; errno = errno; message = noMessage }

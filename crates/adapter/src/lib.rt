@@ -1,9 +1,9 @@
 // The adapter and its calls, each exactly its rule. A refused call hands back the adapter that came in.
 ghost use mathlib.Core.Logic.{_≢_};
 ghost use mathlib.Core.Path.{_≡_};
-ghost use Rattle.adapter.specs.Adapter.{stateOf, doneOf, openedOf, transmittedOf, receivedOf, startedOf};
+ghost use Rattle.adapter.specs.Adapter.{stateOf, doneOf, openedOf, transmittedOf, receivedOf, startedOf, refusedCall, refusedOpen, refusedTransmit, refusedReceive, refusedBusStart};
 ghost use Rattle.request.specs.Request.{requestOf};
-ghost use Rattle.rows.specs.Noted.{notedOf};
+ghost use Rattle.rows.specs.Noted.{notedOf, refusedLookup};
 ghost use Rattle.rules.specs.Call.{callOpen, callClose, callMode, callTransmit, callReceive, callBusStart, callBusResult, callMessage, callTime, callConfigure, callUnconfigure, callLookup};
 ghost use Rattle.rules.specs.Listing.{rowOf};
 ghost use Rattle.rules.specs.State.{fresh};
@@ -81,7 +81,7 @@ impl Adapter {
 
     pub fn open(self, privileged: bool) -> Opened
         ensures { λ r. ⌜ openedOf r ≡ step (stateOf self) (callOpen privileged) ⌝ }
-        ensures { λ r. ⌜ (r .errno ≢ 0 → r .adapter ≡ self) ⌝ }
+        ensures { λ r. ⌜ (r .errno ≢ 0 → r ≡ refusedOpen self (r .errno)) ⌝ }
     {
         let answer = open::open(self.parts, privileged);
         let parts = answer.parts;
@@ -94,21 +94,21 @@ impl Adapter {
 
     pub fn close(self, handle: u8) -> Done
         ensures { λ r. ⌜ doneOf r ≡ step (stateOf self) (callClose handle) ⌝ }
-        ensures { λ r. ⌜ (r .errno ≢ 0 → r .adapter ≡ self) ⌝ }
+        ensures { λ r. ⌜ (r .errno ≢ 0 → r ≡ refusedCall self (r .errno)) ⌝ }
     {
         of_done(close::close(self.parts, handle))
     }
 
     pub fn mode(self, handle: u8, mode: u32) -> Done
         ensures { λ r. ⌜ doneOf r ≡ step (stateOf self) (callMode handle mode) ⌝ }
-        ensures { λ r. ⌜ (r .errno ≢ 0 → r .adapter ≡ self) ⌝ }
+        ensures { λ r. ⌜ (r .errno ≢ 0 → r ≡ refusedCall self (r .errno)) ⌝ }
     {
         of_done(set_mode::mode(self.parts, handle, mode))
     }
 
     pub fn transmit(self, handle: u8, request: Request) -> Transmitted
         ensures { λ r. ⌜ transmittedOf r ≡ step (stateOf self) (callTransmit handle (requestOf request)) ⌝ }
-        ensures { λ r. ⌜ (r .errno ≢ 0 → r .adapter ≡ self) ⌝ }
+        ensures { λ r. ⌜ (r .errno ≢ 0 → r ≡ refusedTransmit self (r .errno)) ⌝ }
     {
         let answer = transmit::transmit(self.parts, handle, request);
         let parts = answer.parts;
@@ -122,7 +122,7 @@ impl Adapter {
 
     pub fn receive(self, handle: u8) -> Received
         ensures { λ r. ⌜ receivedOf r ≡ step (stateOf self) (callReceive handle) ⌝ }
-        ensures { λ r. ⌜ (r .errno ≢ 0 → r .adapter ≡ self) ⌝ }
+        ensures { λ r. ⌜ (r .errno ≢ 0 → r ≡ refusedReceive self (r .errno)) ⌝ }
     {
         let answer = receive::receive(self.parts, handle);
         let parts = answer.parts;
@@ -136,7 +136,7 @@ impl Adapter {
 
     pub fn bus_start(self) -> Started
         ensures { λ r. ⌜ startedOf r ≡ step (stateOf self) callBusStart ⌝ }
-        ensures { λ r. ⌜ (r .errno ≢ 0 → r .adapter ≡ self) ⌝ }
+        ensures { λ r. ⌜ (r .errno ≢ 0 → r ≡ refusedBusStart self (r .errno)) ⌝ }
     {
         let answer = bus_start::bus_start(self.parts);
         let parts = answer.parts;
@@ -150,7 +150,7 @@ impl Adapter {
 
     pub fn bus_result(self, status: u8, counts: Counts) -> Done
         ensures { λ r. ⌜ doneOf r ≡ step (stateOf self) (callBusResult status counts) ⌝ }
-        ensures { λ r. ⌜ (r .errno ≢ 0 → r .adapter ≡ self) ⌝ }
+        ensures { λ r. ⌜ (r .errno ≢ 0 → r ≡ refusedCall self (r .errno)) ⌝ }
     {
         of_done(bus_result::bus_result(self.parts, status, counts))
     }
@@ -158,7 +158,7 @@ impl Adapter {
     // A message came from the wire.
     pub fn message(self, length: u8, bytes: [u8; 16]) -> Done
         ensures { λ r. ⌜ doneOf r ≡ step (stateOf self) (callMessage length bytes) ⌝ }
-        ensures { λ r. ⌜ (r .errno ≢ 0 → r .adapter ≡ self) ⌝ }
+        ensures { λ r. ⌜ (r .errno ≢ 0 → r ≡ refusedCall self (r .errno)) ⌝ }
     {
         of_done(incoming::message(self.parts, length, bytes))
     }
@@ -172,7 +172,7 @@ impl Adapter {
 
     pub fn configure(self, settings: Settings) -> Done
         ensures { λ r. ⌜ doneOf r ≡ step (stateOf self) (callConfigure settings) ⌝ }
-        ensures { λ r. ⌜ (r .errno ≢ 0 → r .adapter ≡ self) ⌝ }
+        ensures { λ r. ⌜ (r .errno ≢ 0 → r ≡ refusedCall self (r .errno)) ⌝ }
     {
         of_done(configure::configure(self.parts, settings))
     }
@@ -193,6 +193,7 @@ impl Adapter {
     // The address noted for a logical one. It changes nothing, so that no adapter comes back.
     pub fn lookup(self, address: u8) -> Noted
         ensures { λ r. ⌜ notedOf (stateOf self) r ≡ step (stateOf self) (callLookup address) ⌝ }
+        ensures { λ r. ⌜ (r .errno ≢ 0 → r ≡ refusedLookup (r .errno)) ⌝ }
     {
         rows::noted_address(self.parts, address)
     }

@@ -1,7 +1,7 @@
 // Bus start.
 ghost use mathlib.Core.Logic.{_≢_};
 ghost use mathlib.Core.Path.{_≡_};
-ghost use Rattle.bus_start.specs.Started.{startedOf};
+ghost use Rattle.bus_start.specs.Started.{startedOf, refusedBusStart};
 ghost use Rattle.parts.specs.Parts.{stateOf};
 ghost use Rattle.rules.specs.BusStart.{doBusStart, busStartRefusal};
 use constants::EAGAIN;
@@ -30,7 +30,7 @@ fn bus_start_errno(parts: Parts) -> u32
 
 pub fn bus_start(mut parts: Parts) -> Started
     ensures { λ r. ⌜ startedOf r ≡ doBusStart (stateOf parts) ⌝ }
-    ensures { λ r. ⌜ (r .errno ≢ 0 → r .parts ≡ parts) ⌝ }
+    ensures { λ r. ⌜ (r .errno ≢ 0 → r ≡ refusedBusStart parts (r .errno)) ⌝ }
 {
     let errno = bus_start_errno(parts);
     let mut message = Message::new(0, [0; 16]);

@@ -3,12 +3,12 @@ ghost use mathlib.Core.Logic.{_≢_};
 ghost use mathlib.Core.Path.{_≡_};
 ghost use prog.Memory.{size};
 ghost use Rattle.adapter.proofs.Adapter.Laws as adapter-laws;
-ghost use Rattle.adapter.specs.Adapter.{stateOf, doneOf, openedOf, transmittedOf, receivedOf, startedOf};
+ghost use Rattle.adapter.specs.Adapter.{stateOf, doneOf, openedOf, transmittedOf, receivedOf, startedOf, refusedCall, refusedOpen, refusedTransmit, refusedReceive, refusedBusStart};
 ghost use Rattle.listing.specs.Rows.{listedOf};
 ghost use Rattle.lists.specs.Tests.{bit};
 ghost use Rattle.message.specs.Reply.{isReply};
 ghost use Rattle.request.specs.Request.{requestOf};
-ghost use Rattle.rows.specs.Noted.{notedOf};
+ghost use Rattle.rows.specs.Noted.{notedOf, refusedLookup};
 ghost use Rattle.rules.specs.Call.{callOpen, callClose, callMode, callTransmit, callReceive, callBusStart, callBusResult, callMessage, callTime, callConfigure, callUnconfigure, callListing, callLookup};
 ghost use Rattle.rules.specs.Listing.{rowsAfter};
 ghost use Rattle.rules.specs.State.{fresh};
@@ -44,7 +44,7 @@ pub extern "C" fn cec_adapter_size() -> usize
 #[no_mangle]
 pub extern "C" fn cec_adapter_open(adapter: Adapter, privileged: bool) -> Opened
     ensures { λ r. ⌜ openedOf r ≡ step (stateOf adapter) (callOpen privileged) ⌝ }
-    ensures { λ r. ⌜ (r .errno ≢ 0 → r .adapter ≡ adapter) ⌝ }
+    ensures { λ r. ⌜ (r .errno ≢ 0 → r ≡ refusedOpen adapter (r .errno)) ⌝ }
 {
     adapter.open(privileged)
 }
@@ -52,7 +52,7 @@ pub extern "C" fn cec_adapter_open(adapter: Adapter, privileged: bool) -> Opened
 #[no_mangle]
 pub extern "C" fn cec_adapter_close(adapter: Adapter, handle: u8) -> Done
     ensures { λ r. ⌜ doneOf r ≡ step (stateOf adapter) (callClose handle) ⌝ }
-    ensures { λ r. ⌜ (r .errno ≢ 0 → r .adapter ≡ adapter) ⌝ }
+    ensures { λ r. ⌜ (r .errno ≢ 0 → r ≡ refusedCall adapter (r .errno)) ⌝ }
 {
     adapter.close(handle)
 }
@@ -60,7 +60,7 @@ pub extern "C" fn cec_adapter_close(adapter: Adapter, handle: u8) -> Done
 #[no_mangle]
 pub extern "C" fn cec_adapter_set_mode(adapter: Adapter, handle: u8, mode: u32) -> Done
     ensures { λ r. ⌜ doneOf r ≡ step (stateOf adapter) (callMode handle mode) ⌝ }
-    ensures { λ r. ⌜ (r .errno ≢ 0 → r .adapter ≡ adapter) ⌝ }
+    ensures { λ r. ⌜ (r .errno ≢ 0 → r ≡ refusedCall adapter (r .errno)) ⌝ }
 {
     adapter.mode(handle, mode)
 }
@@ -72,7 +72,7 @@ pub extern "C" fn cec_adapter_transmit(
     request: Request,
 ) -> Transmitted
     ensures { λ r. ⌜ transmittedOf r ≡ step (stateOf adapter) (callTransmit handle (requestOf request)) ⌝ }
-    ensures { λ r. ⌜ (r .errno ≢ 0 → r .adapter ≡ adapter) ⌝ }
+    ensures { λ r. ⌜ (r .errno ≢ 0 → r ≡ refusedTransmit adapter (r .errno)) ⌝ }
 {
     adapter.transmit(handle, request)
 }
@@ -80,7 +80,7 @@ pub extern "C" fn cec_adapter_transmit(
 #[no_mangle]
 pub extern "C" fn cec_adapter_receive(adapter: Adapter, handle: u8) -> Received
     ensures { λ r. ⌜ receivedOf r ≡ step (stateOf adapter) (callReceive handle) ⌝ }
-    ensures { λ r. ⌜ (r .errno ≢ 0 → r .adapter ≡ adapter) ⌝ }
+    ensures { λ r. ⌜ (r .errno ≢ 0 → r ≡ refusedReceive adapter (r .errno)) ⌝ }
 {
     adapter.receive(handle)
 }
@@ -88,7 +88,7 @@ pub extern "C" fn cec_adapter_receive(adapter: Adapter, handle: u8) -> Received
 #[no_mangle]
 pub extern "C" fn cec_adapter_bus_start(adapter: Adapter) -> Started
     ensures { λ r. ⌜ startedOf r ≡ step (stateOf adapter) callBusStart ⌝ }
-    ensures { λ r. ⌜ (r .errno ≢ 0 → r .adapter ≡ adapter) ⌝ }
+    ensures { λ r. ⌜ (r .errno ≢ 0 → r ≡ refusedBusStart adapter (r .errno)) ⌝ }
 {
     adapter.bus_start()
 }
@@ -96,7 +96,7 @@ pub extern "C" fn cec_adapter_bus_start(adapter: Adapter) -> Started
 #[no_mangle]
 pub extern "C" fn cec_adapter_bus_result(adapter: Adapter, status: u8, counts: Counts) -> Done
     ensures { λ r. ⌜ doneOf r ≡ step (stateOf adapter) (callBusResult status counts) ⌝ }
-    ensures { λ r. ⌜ (r .errno ≢ 0 → r .adapter ≡ adapter) ⌝ }
+    ensures { λ r. ⌜ (r .errno ≢ 0 → r ≡ refusedCall adapter (r .errno)) ⌝ }
 {
     adapter.bus_result(status, counts)
 }
@@ -105,7 +105,7 @@ pub extern "C" fn cec_adapter_bus_result(adapter: Adapter, status: u8, counts: C
 #[no_mangle]
 pub extern "C" fn cec_adapter_received(adapter: Adapter, message: Message) -> Done
     ensures { λ r. ⌜ doneOf r ≡ step (stateOf adapter) (callMessage (message .length) (message .bytes)) ⌝ }
-    ensures { λ r. ⌜ (r .errno ≢ 0 → r .adapter ≡ adapter) ⌝ }
+    ensures { λ r. ⌜ (r .errno ≢ 0 → r ≡ refusedCall adapter (r .errno)) ⌝ }
 {
     adapter.message(message.length(), message.bytes())
 }
@@ -121,7 +121,7 @@ pub extern "C" fn cec_adapter_time_passed(adapter: Adapter, ms: u32) -> Done
 #[no_mangle]
 pub extern "C" fn cec_adapter_configure(adapter: Adapter, settings: Settings) -> Done
     ensures { λ r. ⌜ doneOf r ≡ step (stateOf adapter) (callConfigure settings) ⌝ }
-    ensures { λ r. ⌜ (r .errno ≢ 0 → r .adapter ≡ adapter) ⌝ }
+    ensures { λ r. ⌜ (r .errno ≢ 0 → r ≡ refusedCall adapter (r .errno)) ⌝ }
 {
     adapter.configure(settings)
 }
@@ -145,6 +145,7 @@ pub extern "C" fn cec_adapter_listing(adapter: Adapter, rows: &mut [Row]) -> u32
 #[no_mangle]
 pub extern "C" fn cec_adapter_lookup(adapter: Adapter, address: u8) -> Noted
     ensures { λ r. ⌜ notedOf (stateOf adapter) r ≡ step (stateOf adapter) (callLookup address) ⌝ }
+    ensures { λ r. ⌜ (r .errno ≢ 0 → r ≡ refusedLookup (r .errno)) ⌝ }
 {
     adapter.lookup(address)
 }

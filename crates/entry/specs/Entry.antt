@@ -1,9 +1,8 @@
 -- An entry of an inbox, one definition for each kind (document 01, "The adapter's parts": what a rule does not name is 0).
 -- Assumes nothing.
 use Prim.Native.Nat.{ℕ, _+_}
-use lib.ListN.{replicate}
 use Rattle.constants.specs.Kernel.{CEC-RX-STATUS-OK, CEC-RX-STATUS-TIMEOUT, CEC-RX-STATUS-FEATURE-ABORT, CEC-RX-STATUS-ABORTED}
-use Rattle.message.specs.Message.{message}
+use Rattle.message.specs.Message.{noMessage}
 use Rattle.message.specs.declared.Message.{Message}
 use Rattle.entry.specs.declared.Counts.{Counts}
 use Rattle.entry.specs.declared.Entry.{Entry}
@@ -44,4 +43,4 @@ messageCopy m = received 0 CEC-RX-STATUS-OK m
 
 -- where there is none
 abbrev pub noEntry : Entry
-noEntry = received 0 0 (message 0 (replicate 16 0))
+noEntry = received 0 0 noMessage

@@ -2,16 +2,23 @@
 -- Assumes nothing.
 use Prim.Native.Nat.{ℕ, _-_, _/_, _%_, min}
 use mathlib.Core.List.{List, _++_}
-use lib.ListN.{getD, take, replicate}
+use lib.ListN.{getD, length, take, replicate}
 use Rattle.message.specs.declared.Message.{Message}
 
 -- the message of a length and 16 bytes: a length past 16 counts as 16, and bytes past the length are 0
 unfoldable pub message : ℕ → List ℕ → Message
 message n bs = record { length = min n 16; bytes = take (min n 16) bs ++ replicate (16 - min n 16) 0 }
 
+-- where there is none
+abbrev pub noMessage : Message
+noMessage = message 0 (replicate 16 0)
+
 -- the bytes that are sent
 abbrev pub contents : Message → List ℕ
 contents m = take (m .length) (m .bytes)
+
+abbrev pub sentLength : Message → ℕ
+sentLength m = length (contents m)
 
 -- The first byte has the initiator's address in its high digit, the destination's in its low one; the second byte is the opcode.
 abbrev pub initiator : List ℕ → ℕ

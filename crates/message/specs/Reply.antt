@@ -9,7 +9,7 @@ use Rattle.constants.specs.Kernel.{CEC-MSG-FEATURE-ABORT, CEC-MSG-INITIATE-ARC,
 
 -- "a slice of length under 2 or over 16 is no match"
 abbrev pub hasOpcode : ℕ → Bool
-hasOpcode length = leb 2 length && leb length 16
+hasOpcode size = leb 2 size && leb size 16
 
 -- "the sender is the address the transmit went to, or it went to 15", of the first bytes
 abbrev pub fromDestination : ℕ → ℕ → Bool
@@ -21,7 +21,7 @@ toInitiator sent came = eqb (came % 16) (sent / 16) || eqb (came % 16) CEC-LOG-A
 
 -- "opcode 0x00 with length 3 or more and third byte the sent opcode"
 abbrev pub isFeatureAbort : ℕ → ℕ → ℕ → ℕ → Bool
-isFeatureAbort sent came length third = eqb came CEC-MSG-FEATURE-ABORT && leb 3 length && eqb third sent
+isFeatureAbort sent came size third = eqb came CEC-MSG-FEATURE-ABORT && leb 3 size && eqb third sent
 
 -- "a non-zero opcode equal to the wanted reply"
 abbrev pub isWanted : ℕ → ℕ → Bool
@@ -36,7 +36,7 @@ isArcPair sent came wanted = eqb sent CEC-MSG-INITIATE-ARC && isArcReport wanted
 
 -- the opcodes and operands match by one of the three rules
 abbrev pub isAnswer : ℕ → ℕ → ℕ → ℕ → ℕ → Bool
-isAnswer sent came length third wanted = isFeatureAbort sent came length third || isWanted came wanted || isArcPair sent came wanted
+isAnswer sent came size third wanted = isFeatureAbort sent came size third || isWanted came wanted || isArcPair sent came wanted
 
 -- whether the bytes that came are the reply to the bytes that were sent
 unfoldable pub isReply : List ℕ → List ℕ → ℕ → Bool

@@ -1,8 +1,8 @@
 // A CEC message by value, and the reply test on messages and on byte slices.
 ghost use mathlib.Core.Path.{_≡_};
 ghost use Prim.Native.Nat.{_≤_, _/_, min};
-ghost use lib.ListN.{getD, length};
-ghost use Rattle.message.specs.Message.{message, contents, initiator, destination, opcode};
+ghost use lib.ListN.{getD};
+ghost use Rattle.message.specs.Message.{message, contents, sentLength, initiator, destination, opcode};
 
 pub mod reply;
 
@@ -78,7 +78,7 @@ impl Message {
 
     // How many bytes are sent.
     fn sent_length(self) -> usize
-        ensures { λ r. ⌜ r ≡ length (contents self) ⌝ }
+        ensures { λ r. ⌜ r ≡ sentLength self ⌝ }
     {
         let n = self.length as usize;
         if n < 16 { n } else { 16 }

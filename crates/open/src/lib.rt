@@ -2,7 +2,7 @@
 ghost use mathlib.Core.Logic.{_≢_};
 ghost use mathlib.Core.Path.{_≡_};
 ghost use Rattle.parts.specs.Parts.{stateOf};
-ghost use Rattle.open.specs.Answer.{openedOf};
+ghost use Rattle.open.specs.Answer.{openedOf, refusedOpen};
 ghost use Rattle.rules.specs.Open.{doOpen, openRefusal};
 use constants::CEC_MODE_INITIATOR;
 use constants::EMFILE;
@@ -30,7 +30,7 @@ fn open_errno(parts: Parts) -> u32
 
 pub fn open(parts: Parts, privileged: bool) -> Opened
     ensures { λ r. ⌜ openedOf r ≡ doOpen (stateOf parts) privileged ⌝ }
-    ensures { λ r. ⌜ (r .errno ≢ 0 → r .parts ≡ parts) ⌝ }
+    ensures { λ r. ⌜ (r .errno ≢ 0 → r ≡ refusedOpen parts (r .errno)) ⌝ }
 {
     let errno = open_errno(parts);
     if errno != 0 {

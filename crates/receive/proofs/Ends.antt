@@ -1,4 +1,4 @@
--- The end of a receive, from the parts.
+-- The ends of a receive, from the parts.
 -- Assumes nothing.
 use Prim.Native.Nat.{ℕ, _<_}
 use mathlib.Core.Bool.{not}
@@ -8,7 +8,12 @@ use lib.Dec.{eqb}
 use lib.ListN.{length}
 use borrow.Author.Tests.{eqb-false}
 use Rattle.constants.specs.Kernel.{EAGAIN, EBADF}
+use Rattle.entry.specs.Entry.{noEntry}
+use Rattle.entry.specs.declared.Entry.{Entry}
 use Rattle.inbox.specs.Inboxes.{inboxOf}
+use Rattle.parts.specs.declared.Parts.{Parts}
+use Rattle.receive.specs.Answer.{refusedReceive}
+use Rattle.receive.specs.declared.Received.{Received}
 use Rattle.rules.proofs.Checks.{passed}
 use Rattle.rules.specs.Handles.{isOpen}
 use Rattle.rules.specs.Receive.{receiveRefusal}
@@ -21,3 +26,7 @@ some-entry s h q =
     let b = passed (eqb (length (inboxOf (s .inboxes) h)) 0) EAGAIN 0 (omega arith) (a .1) in
     let c = eqb-false (length (inboxOf (s .inboxes) h)) 0 (b .0) in
     omega arith
+
+-- a receive that is refused leaves the parts, and gives no entry
+pub refused-answer : (p q : Parts) (errno : ℕ) (e : Entry) → q ≡ p → e ≡ noEntry → _≡_ {A = Received} (record { parts = q; errno = errno; entry = e }) (refusedReceive p errno)
+refused-answer p q errno e same none = rw (same, none)

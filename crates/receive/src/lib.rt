@@ -2,7 +2,7 @@
 ghost use mathlib.Core.Logic.{_≢_};
 ghost use mathlib.Core.Path.{_≡_};
 ghost use Rattle.parts.specs.Parts.{stateOf};
-ghost use Rattle.receive.specs.Answer.{receivedOf};
+ghost use Rattle.receive.specs.Answer.{receivedOf, refusedReceive};
 ghost use Rattle.rules.specs.Receive.{doReceive, receiveRefusal};
 use constants::EAGAIN;
 use constants::EBADF;
@@ -31,7 +31,7 @@ fn receive_errno(parts: Parts, handle: u8) -> u32
 
 pub fn receive(parts: Parts, handle: u8) -> Received
     ensures { λ r. ⌜ receivedOf r ≡ doReceive (stateOf parts) handle ⌝ }
-    ensures { λ r. ⌜ (r .errno ≢ 0 → r .parts ≡ parts) ⌝ }
+    ensures { λ r. ⌜ (r .errno ≢ 0 → r ≡ refusedReceive parts (r .errno)) ⌝ }
 {
     let errno = receive_errno(parts, handle);
     let mut entry = Entry::none();

@@ -1,8 +1,9 @@
 // The row of a handle in the listing, and the lookup of a noted address. Both change nothing.
 ghost use mathlib.Core.Bool.{false};
+ghost use mathlib.Core.Logic.{_≢_};
 ghost use mathlib.Core.Path.{_≡_};
 ghost use Rattle.parts.specs.Parts.{stateOf};
-ghost use Rattle.rows.specs.Noted.{notedOf};
+ghost use Rattle.rows.specs.Noted.{notedOf, refusedLookup};
 ghost use Rattle.rules.specs.Listing.{rowOf};
 ghost use Rattle.rules.specs.Lookup.{doLookup, lookupRefusal};
 use constants::EINVAL;
@@ -61,6 +62,7 @@ fn lookup_errno(address: u8) -> u32
 // The physical address that is noted for a logical one.
 pub fn noted_address(parts: Parts, address: u8) -> Noted
     ensures { λ r. ⌜ notedOf (stateOf parts) r ≡ doLookup (stateOf parts) address ⌝ }
+    ensures { λ r. ⌜ (r .errno ≢ 0 → r ≡ refusedLookup (r .errno)) ⌝ }
 {
     let errno = lookup_errno(address);
     if errno != 0 {

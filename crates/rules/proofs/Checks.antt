@@ -1,9 +1,9 @@
 -- Checks in their order: what follows where they are passed, and where they are not.
 -- Assumes nothing.
 use Prim.Native.Nat.{ℕ}
-use mathlib.Core.Bool.{Bool, true, false}
+use mathlib.Core.Bool.{Bool, true, false, cond}
 use mathlib.Core.Logic.{_≢_}
-use mathlib.Core.Path.{_≡_, refl}
+use mathlib.Core.Path.{_≡_, refl, sym, _∙_}
 use lib.Dec.{eqb}
 use borrow.Author.Tests.{eq-eqb, ne-eqb, eqb-true}
 use Rattle.lists.specs.Tests.{split}
@@ -15,6 +15,35 @@ pub passed : (b : Bool) (e later : ℕ) → e ≢ 0 → check b e later ≡ 0 �
 unfolding check
 passed true e later n q = absurd (n q)
 passed false e later n q = (refl, q)
+
+-- a check that fails gives its number; one that is passed, what the later ones say
+pub stopped : (b : Bool) (e later : ℕ) → b ≡ true → e ≡ check b e later
+unfolding check
+stopped b e later q = rw q
+
+pub onward : (b : Bool) (e later n : ℕ) → b ≡ false → n ≡ later → n ≡ check b e later
+unfolding check
+onward b e later n q r = rw (q, r)
+
+-- the number of the checks so far, or what the later ones say
+abbrev pub first : ℕ → ℕ → ℕ
+first n later = cond (eqb n 0) later n
+
+-- a check more before them
+pub first-check : (b : Bool) (e n later : ℕ) → e ≢ 0 → check b e (first n later) ≡ first (check b e n) later
+unfolding check
+first-check true e n later z = sym (rw (ne-eqb e 0 z))
+first-check false e n later z = refl
+
+-- checks that can be made before the later ones are known
+abbrev pub Leads : (ℕ → ℕ) → Type 0
+Leads checks = (later : ℕ) → checks later ≡ first (checks 0) later
+
+pub refuses : (checks : ℕ → ℕ) → Leads checks → (n later : ℕ) → n ≡ checks 0 → n ≢ 0 → n ≡ checks later
+refuses checks l n later q z = sym (l later ∙ rw (← q, ne-eqb n 0 z))
+
+pub passes : (checks : ℕ → ℕ) → Leads checks → (n later : ℕ) → n ≡ checks 0 → n ≡ 0 → later ≡ checks later
+passes checks l n later q z = sym (l later ∙ rw (← q, eq-eqb n 0 z))
 
 -- no refusal: the call is done
 pub unless-done : (s : State) (o : Outcome) (n : ℕ) → n ≡ 0 → unless n s o ≡ o

@@ -67,21 +67,31 @@ abbrev pub isFull : State → ℕ → Request → Bool
 isFull s h r =
     leb 18 (length (s .queue))
     || wantsReply r && leb 4 (wantedReplies s h)
-    || ltb 16 (roomTaken s h + (1 + bit (wantsReply r)))
+    || ltb 16 (roomTaken s h + newRoom r)
 
--- 1. "EBADF; then ENOTTY; then EPERM for low digit 0." 2. "Another handle is exclusive initiator: EBUSY." Then 3 to 8, with 5. "Unconfigured: allowed only .. (wake-up); otherwise ENONET. A wake-up with reply or timeout non-zero: EINVAL"
-abbrev pub transmitRefusal : State → ℕ → Request → ℕ
-transmitRefusal s h r =
+-- 1. "EBADF; then ENOTTY; then EPERM for low digit 0." 2. "Another handle is exclusive initiator: EBUSY." Then the later ones
+abbrev pub senderRefusal : State → ℕ → ℕ → ℕ
+senderRefusal s h later =
     check (not (isOpen s h)) EBADF
     (check (not (s .capabilities .transmit)) ENOTTY
     (check (eqb (initiatorPart (handleAt s h .mode)) CEC-MODE-NO-INITIATOR) EPERM
-    (check (another isExclusiveInitiator s h) EBUSY
-    (check (isMalformed r) EINVAL
+    (check (another isExclusiveInitiator s h) EBUSY later)))
+
+-- 3, 4, 5. "Unconfigured: allowed only .. (wake-up); otherwise ENONET. A wake-up with reply or timeout non-zero: EINVAL", 6. Then the later ones
+abbrev pub messageRefusal : State → Request → ℕ → ℕ
+messageRefusal s r later =
+    check (isMalformed r) EINVAL
     (check (isPollInvalid r) EINVAL
     (check (not (isConfigured s) && not (isWakeUp r)) ENONET
     (check (not (isConfigured s) && wantsReply r) EINVAL
-    (check (isConfigured s && isMisaddressed s r) EINVAL
-    (check (not (isSelfPoll s r) && isFull s h r) EBUSY 0)))))))))
+    (check (isConfigured s && isMisaddressed s r) EINVAL later))))
+
+-- the checks in their order; 8 is none for a poll to an own address, which succeeds at once
+abbrev pub transmitRefusal : State → ℕ → Request → ℕ
+transmitRefusal s h r =
+    senderRefusal s h
+    (messageRefusal s r
+    (check (not (isSelfPoll s r) && isFull s h r) EBUSY 0))
 
 -- "timeout 0 then means 1000 ms"
 abbrev pub timeoutOf : Request → ℕ

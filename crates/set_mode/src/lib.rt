@@ -18,7 +18,6 @@ use handles::mode::is_follower;
 use handles::mode::is_monitor;
 use parts::Done;
 use parts::Parts;
-use parts::check;
 
 fn is_mode(mode: u32) -> bool
     ensures { λ r. ⌜ r ≡ isMode mode ⌝ }
@@ -62,20 +61,23 @@ fn is_role_held(parts: Parts, handle: u8, mode: u32) -> bool
         | is_exclusive_follower(mode) & others.exclusive_follower
 }
 
+// "Checks in order"
 fn mode_errno(parts: Parts, handle: u8, mode: u32) -> u32
     ensures { λ r. ⌜ r ≡ modeRefusal (stateOf parts) handle mode ⌝ }
 {
-    let held = check(is_role_held(parts, handle, mode), EBUSY, 0);
-    let privilege = check(
-        is_monitor(mode) & !parts.handle_at(handle).privileged,
-        EPERM,
-        held,
-    );
-    check(
-        !parts.is_open(handle),
-        EBADF,
-        check(is_mode_invalid(parts, mode), EINVAL, privilege),
-    )
+    if !parts.is_open(handle) {
+        return EBADF;
+    }
+    if is_mode_invalid(parts, mode) {
+        return EINVAL;
+    }
+    if is_monitor(mode) & !parts.handle_at(handle).privileged {
+        return EPERM;
+    }
+    if is_role_held(parts, handle, mode) {
+        return EBUSY;
+    }
+    0
 }
 
 pub fn mode(parts: Parts, handle: u8, mode: u32) -> Done

@@ -4,10 +4,10 @@ use Prim.Native.Nat.{ℕ, _+_}
 use mathlib.Core.Bool.{Bool, false, cond}
 use mathlib.Core.List.{List}
 use lib.Dec.{eqb}
-use lib.ListN.{getD, replicate}
+use lib.ListN.{getD}
 use Rattle.lists.specs.Sums.{sum}
 use Rattle.lists.specs.Tests.{bit}
-use Rattle.message.specs.Message.{message}
+use Rattle.message.specs.Message.{noMessage}
 use Rattle.message.specs.declared.Message.{Message}
 use Rattle.transmission.specs.declared.Owed.{Owed}
 use Rattle.transmission.specs.declared.Transmission.{Transmission}
@@ -22,7 +22,7 @@ ownerless m = record { number = 0; owner = noOwner; «wants_reply» = false; rep
 
 -- where there is none: an empty message
 abbrev pub noTransmission : Transmission
-noTransmission = ownerless (message 0 (replicate 16 0))
+noTransmission = ownerless noMessage
 
 -- a close of handle h
 abbrev pub orphaned : ℕ → Transmission → Transmission

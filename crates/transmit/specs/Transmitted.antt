@@ -1,8 +1,14 @@
 -- The answer of a transmit, read as an outcome of the rules.
 -- Assumes nothing.
+use Prim.Native.Nat.{ℕ}
 use Rattle.parts.specs.Parts.{stateOf, orRefused}
+use Rattle.parts.specs.declared.Parts.{Parts}
 use Rattle.rules.specs.Call.{Outcome, finish, accepted}
 use Rattle.transmit.specs.declared.Transmitted.{Transmitted}
 
 abbrev pub transmittedOf : Transmitted → Outcome
 transmittedOf r = finish (orRefused (r .errno) (accepted (r .number) (r .«tx_status»))) (stateOf (r .parts))
+
+-- "A refusal returns its number and no other content; nothing changes" (document 01, "Numbers given back"): the whole answer of a call that is refused
+abbrev pub refusedTransmit : Parts → ℕ → Transmitted
+refusedTransmit p errno = record { parts = p; errno = errno; number = 0; «tx_status» = 0 }

@@ -4,8 +4,8 @@ ghost use mathlib.Core.Logic.{_≢_};
 ghost use mathlib.Core.Path.{_≡_};
 ghost use Rattle.parts.specs.Parts.{stateOf};
 ghost use Rattle.request.specs.Request.{requestOf};
-ghost use Rattle.rules.specs.Transmit.{isMisaddressed, isSelfPoll, isFull, transmitRefusal, transmissionOf, newRoom, doTransmit};
-ghost use Rattle.transmit.specs.Transmitted.{transmittedOf};
+ghost use Rattle.rules.specs.Transmit.{isMisaddressed, isSelfPoll, isFull, senderRefusal, messageRefusal, transmitRefusal, transmissionOf, newRoom, doTransmit};
+ghost use Rattle.transmit.specs.Transmitted.{transmittedOf, refusedTransmit};
 use constants::CEC_LOG_ADDR_UNREGISTERED;
 use constants::CEC_MODE_NO_INITIATOR;
 use constants::CEC_MSG_FL_REPLY_TO_FOLLOWERS;
@@ -18,7 +18,6 @@ use constants::ENOTTY;
 use constants::EPERM;
 use handles::mode::initiator_part;
 use parts::Parts;
-use parts::check;
 use request::Request;
 use transmission::Transmission;
 
@@ -62,35 +61,66 @@ fn is_full(parts: Parts, handle: u8, request: Request) -> bool
         | (16 < parts.count(handle) + owed.room + new_room(request))
 }
 
-// The checks in their order.
+// Checks 1 and 2: whether the handle may transmit.
+fn sender_errno(parts: Parts, handle: u8) -> u32
+    ensures { λ r. ⌜ r ≡ senderRefusal (stateOf parts) handle 0 ⌝ }
+{
+    let handles = parts.handles;
+    let own = handles.at(handle);
+    if !own.is_open {
+        return EBADF;
+    }
+    if !parts.can_transmit {
+        return ENOTTY;
+    }
+    if initiator_part(own.mode) == CEC_MODE_NO_INITIATOR {
+        return EPERM;
+    }
+    if handles.roles(handle).exclusive_initiator {
+        return EBUSY;
+    }
+    0
+}
+
+// Checks 3 to 6: whether the message may be sent.
+fn message_errno(parts: Parts, request: Request) -> u32
+    ensures { λ r. ⌜ r ≡ messageRefusal (stateOf parts) (requestOf request) 0 ⌝ }
+{
+    if request.is_malformed() {
+        return EINVAL;
+    }
+    if request.is_poll_invalid() {
+        return EINVAL;
+    }
+    let configured = parts.is_configured();
+    if !configured & !request.is_wake_up() {
+        return ENONET;
+    }
+    if !configured & request.wants_reply() {
+        return EINVAL;
+    }
+    if configured & is_misaddressed(parts, request) {
+        return EINVAL;
+    }
+    0
+}
+
+// The checks in their order. A poll to an own address, 7, needs no room, 8.
 fn transmit_errno(parts: Parts, handle: u8, request: Request) -> u32
     ensures { λ r. ⌜ r ≡ transmitRefusal (stateOf parts) handle (requestOf request) ⌝ }
 {
-    let configured = parts.is_configured();
-    let full = check(
-        !is_self_poll(parts, request) & is_full(parts, handle, request),
-        EBUSY,
-        0,
-    );
-    let address = check(configured & is_misaddressed(parts, request), EINVAL, full);
-    let reply = check(!configured & request.wants_reply(), EINVAL, address);
-    let wake_up = check(!configured & !request.is_wake_up(), ENONET, reply);
-    let poll = check(request.is_poll_invalid(), EINVAL, wake_up);
-    let form = check(request.is_malformed(), EINVAL, poll);
-    let handles = parts.handles;
-    let others = handles.roles(handle);
-    let role = check(others.exclusive_initiator, EBUSY, form);
-    let own = handles.at(handle);
-    let initiator = check(
-        initiator_part(own.mode) == CEC_MODE_NO_INITIATOR,
-        EPERM,
-        role,
-    );
-    check(
-        !own.is_open,
-        EBADF,
-        check(!parts.can_transmit, ENOTTY, initiator),
-    )
+    let sender = sender_errno(parts, handle);
+    if sender != 0 {
+        return sender;
+    }
+    let message = message_errno(parts, request);
+    if message != 0 {
+        return message;
+    }
+    if !is_self_poll(parts, request) & is_full(parts, handle, request) {
+        return EBUSY;
+    }
+    0
 }
 
 fn transmission(number: u32, handle: u8, request: Request) -> Transmission
@@ -109,7 +139,7 @@ fn transmission(number: u32, handle: u8, request: Request) -> Transmission
 
 pub fn transmit(mut parts: Parts, handle: u8, request: Request) -> Transmitted
     ensures { λ r. ⌜ transmittedOf r ≡ doTransmit (stateOf parts) handle (requestOf request) ⌝ }
-    ensures { λ r. ⌜ (r .errno ≢ 0 → r .parts ≡ parts) ⌝ }
+    ensures { λ r. ⌜ (r .errno ≢ 0 → r ≡ refusedTransmit parts (r .errno)) ⌝ }
 {
     let errno = transmit_errno(parts, handle, request);
     let mut number = 0;

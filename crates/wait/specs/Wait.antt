@@ -3,15 +3,14 @@
 use Prim.Native.Nat.{ℕ, _-_}
 use mathlib.Core.Bool.{Bool, false}
 use lib.Dec.{eqb}
-use lib.ListN.{replicate}
-use Rattle.message.specs.Message.{message, contents}
+use Rattle.message.specs.Message.{noMessage, contents}
 use Rattle.message.specs.Reply.{isReply}
 use Rattle.message.specs.declared.Message.{Message}
 use Rattle.wait.specs.declared.Wait.{Wait}
 
 -- where there is none
 abbrev pub noWait : Wait
-noWait = record { owner = 0; number = 0; left = 0; reply = 0; «to_followers» = false; sent = message 0 (replicate 16 0) }
+noWait = record { owner = 0; number = 0; left = 0; reply = 0; «to_followers» = false; sent = noMessage }
 
 -- whether it is of handle h
 abbrev pub ownedBy : ℕ → Wait → Bool

@@ -28,7 +28,7 @@ returns c = (taken-outcome (stateOf (c .before .before .before .before .before .
 
 returns-2 : tie.Need-returns-2
 unfolding doBusStart
-returns-2 c = (refused-outcome (stateOf (c .before .before .before .args .parts)) _ _ _ _ (c .before .before .bus-start-errno .ensures) (c .if1 .left), λ _. refl)
+returns-2 c = (refused-outcome (stateOf (c .before .before .before .args .parts)) _ _ _ _ (c .before .before .bus-start-errno .ensures) (c .if1 .left), λ _. rw (c .before .new .ensures))
 
 pub bus-start-spec : {M : Type 1} → statement M
 bus-start-spec =

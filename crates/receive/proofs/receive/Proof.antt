@@ -14,7 +14,7 @@ use Rattle.parts.proofs.Arrays.{counted, counts-long, entries-long, withArrays}
 use Rattle.parts.proofs.Outcomes.{refused-outcome, taken-outcome}
 use Rattle.parts.specs.Parts.{stateOf, orRefused}
 use Rattle.parts.specs.declared.Parts.{Parts}
-use Rattle.receive.proofs.Ends.{some-entry}
+use Rattle.receive.proofs.Ends.{some-entry, refused-answer}
 use Rattle.rules.specs.Call.{Answer, finish}
 use Rattle.rules.specs.Receive.{doReceive}
 use Rattle.rules.specs.State.{withInboxes}
@@ -139,7 +139,7 @@ returns c =
     (taken-outcome (stateOf p) _ _ _ _ _ (errno .ensures) (w .0 .taken) (ap₂ (λ (e : Entry) (is : List (List Entry)). finish (Answer.received e) (withInboxes (stateOf p) is)) given left), λ z. absurd (z (w .0 .taken))))
     (λ w.
     let same = ap₂ (withArrays p) (w .2) (w .3) in
-    (ap (λ (q : Parts). finish (orRefused (errno .result) (Answer.received (c .if1 .entry))) (stateOf q)) same ∙ refused-outcome (stateOf p) _ _ _ _ (errno .ensures) (w .0 .left), λ _. same))
+    (ap (λ (q : Parts). finish (orRefused (errno .result) (Answer.received (c .if1 .entry))) (stateOf q)) same ∙ refused-outcome (stateOf p) _ _ _ _ (errno .ensures) (w .0 .left), λ _. refused-answer p _ _ _ same (w .1 ∙ c .before .before .before .none .ensures)))
     (c .if1 .came)
 
 pub receive-spec : {M : Type 1} → statement M

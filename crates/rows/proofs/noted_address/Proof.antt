@@ -1,5 +1,5 @@
 -- `rows::noted_address` meets its contract. Assumes nothing.
-use mathlib.Core.Path.{sym, _∙_}
+use mathlib.Core.Path.{refl, sym, _∙_}
 use native.Mathlib.Omega.{arith}
 use borrow.Author.Needs.{needs}
 use Rattle.constants.specs.Kernel.{CEC-PHYS-ADDR-INVALID}
@@ -17,7 +17,7 @@ lookup-errno-requires c κs = search needs
 
 returns : tie.Need-returns
 unfolding doLookup
-returns c = refused-outcome (stateOf (c .before .before .args .t1)) _ _ _ _ (c .before .lookup-errno .ensures) (c .if1 .taken)
+returns c = (refused-outcome (stateOf (c .before .before .args .t1)) _ _ _ _ (c .before .lookup-errno .ensures) (c .if1 .taken), λ _. refl)
 
 mul-noted : tie.Need-mul-noted
 mul-noted c = search needs
@@ -30,8 +30,9 @@ unfolding doLookup
 returns-2 c =
     let a = c .before .before .before .args in
     let e = c .before .before .lookup-errno .ensures in
-    rw (getD-within (a .t1 .noted) (a .address) CEC-PHYS-ADDR-INVALID 0 (omega (arith, noted-long (a .t1) _ (c .before .before .before .good .0), taken (a .address) (sym e ∙ c .before .if1 .left))))
-    (done-outcome (stateOf (a .t1)) _ _ _ e (c .before .if1 .left))
+    let within = taken (a .address) (sym e ∙ c .before .if1 .left) in
+    (rw (getD-within (a .t1 .noted) (a .address) CEC-PHYS-ADDR-INVALID 0 (omega (arith, noted-long (a .t1) _ (c .before .before .before .good .0))))
+    (done-outcome (stateOf (a .t1)) _ _ _ e (c .before .if1 .left)), λ z. absurd (z refl))
 
 pub noted-address-spec : {M : Type 1} → statement M
 noted-address-spec =

@@ -1,10 +1,37 @@
 -- `transmit::transmit_errno` meets its contract. Assumes nothing.
+use mathlib.Core.Bool.{_&&_, not}
+use mathlib.Core.Path.{_≡_, _∙_}
 use borrow.Author.Needs.{needs}
+use Rattle.constants.specs.Kernel.{EBUSY}
+use Rattle.parts.specs.Parts.{stateOf}
+use Rattle.request.specs.Request.{requestOf}
+use Rattle.rules.proofs.Checks.{refuses, passes}
+use Rattle.rules.specs.Call.{check}
+use Rattle.rules.specs.Transmit.{isSelfPoll, isFull, senderRefusal, messageRefusal}
+use Rattle.transmit.proofs.Order.{sender-leads, message-leads}
 use Rattle.transmit.proofs.transmit_errno.Statement.{statement}
 use Rattle.transmit.proofs.transmit_errno.Tie as tie
 
-is-configured-requires : tie.Need-is-configured-requires
-is-configured-requires c κs = search needs
+sender-errno-requires : tie.Need-sender-errno-requires
+sender-errno-requires c κs = search needs
+
+returns : tie.Need-returns
+returns c =
+    let start = c .before .before in
+    let s = stateOf (start .args .parts) in
+    refuses (senderRefusal s (start .args .handle)) (sender-leads s (start .args .handle)) _ _ (c .before .sender-errno .ensures) (c .if1 .taken)
+
+message-errno-requires : tie.Need-message-errno-requires
+message-errno-requires c κs = search needs
+
+returns-2 : tie.Need-returns-2
+returns-2 c =
+    let sender = c .before .before .before in
+    let start = sender .before in
+    let s = stateOf (start .args .parts) in
+    let r = requestOf (start .args .request) in
+    refuses (messageRefusal s r) (message-leads s r) _ _ (c .before .message-errno .ensures) (c .if2 .taken)
+    ∙ passes (senderRefusal s (start .args .handle)) (sender-leads s (start .args .handle)) _ _ (sender .sender-errno .ensures) (c .before .before .if1 .left)
 
 is-self-poll-requires : tie.Need-is-self-poll-requires
 is-self-poll-requires c κs = search needs
@@ -12,86 +39,41 @@ is-self-poll-requires c κs = search needs
 is-full-requires : tie.Need-is-full-requires
 is-full-requires c κs = search needs
 
-check-requires : tie.Need-check-requires
-check-requires c κs = search needs
+returns-3 : tie.Need-returns-3
+unfolding check
+returns-3 c =
+    let message = c .before .before .before .before in
+    let sender = message .before .before in
+    let start = sender .before in
+    let s = stateOf (start .args .parts) in
+    let r = requestOf (start .args .request) in
+    let full : EBUSY ≡ check (not (isSelfPoll s r) && isFull s (start .args .handle) r) EBUSY 0 = rw (← c .before .is-full .ensures, ← c .before .before .is-self-poll .ensures, c .if3 .taken) in
+    full
+    ∙ passes (messageRefusal s r) (message-leads s r) _ _ (message .message-errno .ensures) (c .before .before .before .if2 .left)
+    ∙ passes (senderRefusal s (start .args .handle)) (sender-leads s (start .args .handle)) _ _ (sender .sender-errno .ensures) (message .before .if1 .left)
 
-is-misaddressed-requires : tie.Need-is-misaddressed-requires
-is-misaddressed-requires c κs = search needs
-
-check-requires-2 : tie.Need-check-requires-2
-check-requires-2 c κs = search needs
-
-wants-reply-requires : tie.Need-wants-reply-requires
-wants-reply-requires c κs = search needs
-
-check-requires-3 : tie.Need-check-requires-3
-check-requires-3 c κs = search needs
-
-is-wake-up-requires : tie.Need-is-wake-up-requires
-is-wake-up-requires c κs = search needs
-
-check-requires-4 : tie.Need-check-requires-4
-check-requires-4 c κs = search needs
-
-is-poll-invalid-requires : tie.Need-is-poll-invalid-requires
-is-poll-invalid-requires c κs = search needs
-
-check-requires-5 : tie.Need-check-requires-5
-check-requires-5 c κs = search needs
-
-is-malformed-requires : tie.Need-is-malformed-requires
-is-malformed-requires c κs = search needs
-
-check-requires-6 : tie.Need-check-requires-6
-check-requires-6 c κs = search needs
-
-roles-requires : tie.Need-roles-requires
-roles-requires c κs = search needs
-
-check-requires-7 : tie.Need-check-requires-7
-check-requires-7 c κs = search needs
-
-at-requires : tie.Need-at-requires
-at-requires c κs = search needs
-
-initiator-part-requires : tie.Need-initiator-part-requires
-initiator-part-requires c κs = search needs
-
-check-requires-8 : tie.Need-check-requires-8
-check-requires-8 c κs = search needs
-
-check-requires-9 : tie.Need-check-requires-9
-check-requires-9 c κs = search needs
-
-check-requires-10 : tie.Need-check-requires-10
-check-requires-10 c κs = search needs
-
-returns : tie.Need-returns
-returns c = rw (c .check10 .ensures, c .before .check9 .ensures, c .before .before .before .before .check8 .ensures, c .before .before .before .before .before .initiator-part .ensures, c .before .before .before .before .before .before .at .ensures, c .before .before .before .before .before .before .before .check7 .ensures, c .before .before .before .before .before .before .before .before .roles .ensures, c .before .before .before .before .before .before .before .before .before .before .check6 .ensures, c .before .before .before .before .before .before .before .before .before .before .before .is-malformed .ensures, c .before .before .before .before .before .before .before .before .before .before .before .before .check5 .ensures, c .before .before .before .before .before .before .before .before .before .before .before .before .before .is-poll-invalid .ensures, c .before .before .before .before .before .before .before .before .before .before .before .before .before .before .check4 .ensures, c .before .before .before .before .before .before .before .before .before .before .before .before .before .before .before .is-wake-up .ensures, c .before .before .before .before .before .before .before .before .before .before .before .before .before .before .before .before .check3 .ensures, c .before .before .before .before .before .before .before .before .before .before .before .before .before .before .before .before .before .wants-reply .ensures, c .before .before .before .before .before .before .before .before .before .before .before .before .before .before .before .before .before .before .check2 .ensures, c .before .before .before .before .before .before .before .before .before .before .before .before .before .before .before .before .before .before .before .is-misaddressed .ensures, c .before .before .before .before .before .before .before .before .before .before .before .before .before .before .before .before .before .before .before .before .check .ensures, c .before .before .before .before .before .before .before .before .before .before .before .before .before .before .before .before .before .before .before .before .before .is-full .ensures, c .before .before .before .before .before .before .before .before .before .before .before .before .before .before .before .before .before .before .before .before .before .before .is-self-poll .ensures, c .before .before .before .before .before .before .before .before .before .before .before .before .before .before .before .before .before .before .before .before .before .before .before .is-configured .ensures)
+returns-4 : tie.Need-returns-4
+unfolding check
+returns-4 c =
+    let message = c .before .before .before .before in
+    let sender = message .before .before in
+    let start = sender .before in
+    let s = stateOf (start .args .parts) in
+    let r = requestOf (start .args .request) in
+    let full : 0 ≡ check (not (isSelfPoll s r) && isFull s (start .args .handle) r) EBUSY 0 = rw (← c .before .is-full .ensures, ← c .before .before .is-self-poll .ensures, c .if3 .left) in
+    full
+    ∙ passes (messageRefusal s r) (message-leads s r) _ _ (message .message-errno .ensures) (c .before .before .before .if2 .left)
+    ∙ passes (senderRefusal s (start .args .handle)) (sender-leads s (start .args .handle)) _ _ (sender .sender-errno .ensures) (message .before .if1 .left)
 
 pub transmit-errno-spec : {M : Type 1} → statement M
 transmit-errno-spec =
     tie.close
     (tie.spec
-    is-configured-requires
+    sender-errno-requires
+    returns
+    message-errno-requires
+    returns-2
     is-self-poll-requires
     is-full-requires
-    check-requires
-    is-misaddressed-requires
-    check-requires-2
-    wants-reply-requires
-    check-requires-3
-    is-wake-up-requires
-    check-requires-4
-    is-poll-invalid-requires
-    check-requires-5
-    is-malformed-requires
-    check-requires-6
-    roles-requires
-    check-requires-7
-    at-requires
-    initiator-part-requires
-    check-requires-8
-    check-requires-9
-    check-requires-10
-    returns)
+    returns-3
+    returns-4)
