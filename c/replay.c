@@ -108,8 +108,9 @@ static bool play_record(struct cec_adapter *adapter, uint64_t *place)
 
 int main(void)
 {
-    struct cec_adapter adapter = cec_adapter_new(true, true);
+    struct cec_adapter adapter;
     uint64_t place = 0;
+    cec_new(&adapter, true, true);
     while (play_record(&adapter, &place))
         ;
     return 0;

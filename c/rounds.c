@@ -17,7 +17,8 @@ static void play_round(struct cec_adapter *adapter, struct cec_request poll)
 int main(void)
 {
     struct cec_request poll = {.length = 1, .bytes = {CEC_LOG_ADDR_UNREGISTERED << 4}};
-    struct cec_adapter adapter = cec_adapter_new(true, true);
+    struct cec_adapter adapter;
+    cec_new(&adapter, true, true);
     cec_open(&adapter, false);
     for (int i = 0; i < ROUNDS; i++)
         play_round(&adapter, poll);

@@ -212,7 +212,7 @@ int main(void)
 {
     if (cec_adapter_size() != sizeof adapter)
         return 1;
-    adapter = cec_adapter_new(true, true);
+    cec_new(&adapter, true, true);
     open_handle(false);
     open_handle(false);
     wake();

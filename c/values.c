@@ -14,7 +14,7 @@ static struct cec_transmit_answer poll(uint8_t header)
 /* ENOTTY without TRANSMIT, EINVAL without MONITOR_ALL. */
 static void capabilities(bool can_transmit, bool can_monitor_all)
 {
-    adapter = cec_adapter_new(can_transmit, can_monitor_all);
+    cec_new(&adapter, can_transmit, can_monitor_all);
     cec_open(&adapter, true);
     printf("transmit %d, monitor all %d: ", can_transmit, can_monitor_all);
     printf("poll %" PRIu32 ", ", poll(0xF0).error);
@@ -38,7 +38,7 @@ static void settings(void)
     struct cec_settings box = {.physical_address = 0x1234, .mask = 1 << 4, .version = CEC_OP_CEC_VERSION_1_4,
                                .device_type = CEC_OP_PRIM_DEVTYPE_PLAYBACK, .vendor_id = 0xABCDEF, .name_length = 14,
                                .name = {'a', 'b', 'c', 'd', 'e', 'f', 'g', 'h', 'i', 'j', 'k', 'l', 'm', 'n'}};
-    adapter = cec_adapter_new(true, true);
+    cec_new(&adapter, true, true);
     printf("configure %" PRIu32 "\n", cec_configure(&adapter, box));
     core_answers(CEC_MSG_GET_CEC_VERSION);
     core_answers(CEC_MSG_GIVE_DEVICE_VENDOR_ID);

@@ -3,15 +3,18 @@
  * docs/C.md is the guide. Link target/staticlib/libclothbadger.a (rt staticlib clothbadger), x86-64 only.
  *
  * The caller owes:
- *  - an adapter that came from cec_adapter_new() and that only these calls changed;
+ *  - an adapter that came from cec_new() or cec_adapter_new(), and that only these calls changed;
  *  - pointers that are not null, also where a length is 0, that do not overlap, and that have as many
  *    rows or bytes behind them as the count or length says;
  *  - rows lent to cec_listing() that are rows: zeroed, or filled by an earlier listing;
  *  - one call at a time on an adapter: there is no lock in it.
- * Every other value of an argument is tested by the calls. C itself cuts a number that is too wide: 256 as a handle is 0.
+ * Every other value of an argument is tested by the calls. The forms by pointer take a handle, a logical address and a status
+ * as unsigned, and refuse all that is over 255. C itself cuts what is wider than the argument or field that it is given for, before
+ * a call can see it: 2^32 as a handle, a mode or a time is 0, and so is 256 in a field of 8 bits, or as a handle of a proved
+ * function. -Wconversion shows where.
  *
  * An error is a number of Linux's errno.h, 0 for success. A call that is refused changes nothing, and
- * gives nothing but its error: a handle, an entry or a number in its answer means nothing.
+ * all else in its answer is 0: handle, sequence, tx_status, entry, message, address.
  */
 #ifndef CLOTHBADGER_H
 #define CLOTHBADGER_H
@@ -19,6 +22,7 @@
 #include <stdbool.h>
 #include <stddef.h>
 #include <stdint.h>
+#include <string.h>
 
 #ifdef __cplusplus
 extern "C" {
@@ -100,7 +104,10 @@ extern "C" {
 #define CEC_LOG_ADDR_BROADCAST          15
 #define CEC_PHYS_ADDR_INVALID           0xffff
 
-/* An adapter, opaque: copy it, but change it by the calls alone. */
+/*
+ * An adapter, opaque: copy it, but change it by the calls alone. The messages of all programs are in it, read ones too: show it
+ * to none of them.
+ */
 #define CLOTHBADGER_ADAPTER_SIZE 5472
 
 struct cec_adapter {
@@ -109,6 +116,17 @@ struct cec_adapter {
 
 CLOTHBADGER_STATIC_ASSERT(sizeof(struct cec_adapter) == CLOTHBADGER_ADAPTER_SIZE, "size of an adapter");
 CLOTHBADGER_STATIC_ASSERT(CLOTHBADGER_ALIGNOF(struct cec_adapter) == 8, "alignment of an adapter");
+
+/*
+ * For cec_new(), where a fresh adapter is not 0: the owner in each slot of the queue and on the wire (nobody), the capabilities,
+ * the physical address and the noted ones (invalid).
+ */
+#define CLOTHBADGER_QUEUE_SLOTS       18
+#define CLOTHBADGER_QUEUE_OWNER(slot) (3652 + 32 * (slot))
+#define CLOTHBADGER_WIRE_OWNER        4240
+#define CLOTHBADGER_CAPABILITIES      5400
+#define CLOTHBADGER_PHYSICAL_ADDRESS  5408
+#define CLOTHBADGER_NOTED             5436
 
 /*
  * A message: the first byte is initiator and destination, the second the opcode.
@@ -137,6 +155,7 @@ struct cec_entry {
     uint8_t rx_status;
     struct cec_message message;
     struct cec_counts counts;
+    uint8_t reserved;
 };
 
 /*
@@ -169,22 +188,28 @@ struct cec_settings {
 struct cec_row {
     uint8_t number;
     bool is_open;
+    uint8_t reserved[2];
     uint32_t mode;
     uint32_t entries;
     uint32_t owed;
     uint32_t lost;
 };
 
-/* The answers of the calls that give more than an error. */
+/*
+ * The answers of the calls that give more than an error. What would be padding is a field, reserved, here and in entries and rows,
+ * so that C copies it. It is 0 in what the forms by pointer give; the proved functions leave there what was in memory before.
+ */
 struct cec_open_answer {
     uint32_t error;
     uint8_t handle;
+    uint8_t reserved[3];
 };
 
 struct cec_transmit_answer {
     uint32_t error;
     uint32_t sequence;
     uint8_t tx_status;
+    uint8_t reserved[3];
 };
 
 struct cec_receive_answer {
@@ -195,11 +220,13 @@ struct cec_receive_answer {
 struct cec_bus_start_answer {
     uint32_t error;
     struct cec_message message;
+    uint8_t reserved[3];
 };
 
 struct cec_lookup_answer {
     uint32_t error;
     uint16_t address;
+    uint8_t reserved[2];
 };
 
 /* The adapter after a call, and the answer. */
@@ -264,26 +291,61 @@ uint8_t cec_reply_match(const uint8_t *sent, size_t sent_length,
                         const uint8_t *received, size_t received_length,
                         uint8_t wanted);
 
+/*
+ * A number as an argument of 8 bits: all that is over 255 becomes 255. As a handle that is EBADF, as a logical address EINVAL, and
+ * as a status EINVAL too: it has all four of the bits of which there must be exactly one.
+ */
+static inline uint8_t cec_narrow(unsigned number)
+{
+    return (uint8_t)(number > 255 ? 255 : number);
+}
+
+/* Copies some bytes of an adapter to the same place in another. */
+static inline void cec_copy_bytes(struct cec_adapter *to, const struct cec_adapter *from, size_t place, size_t length)
+{
+    memcpy((uint8_t *)to->opaque + place, (const uint8_t *)from->opaque + place, length);
+}
+
+/*
+ * Makes a fresh adapter, the same as cec_adapter_new() in every field. That one has bytes of the stack in its padding, so what is
+ * not 0 in it is copied to a cleared one.
+ */
+static inline void cec_new(struct cec_adapter *adapter, bool can_transmit, bool can_monitor_all)
+{
+    struct cec_adapter fresh = cec_adapter_new(can_transmit, can_monitor_all);
+    memset(adapter, 0, sizeof *adapter);
+    for (size_t slot = 0; slot < CLOTHBADGER_QUEUE_SLOTS; slot++)
+        cec_copy_bytes(adapter, &fresh, CLOTHBADGER_QUEUE_OWNER(slot), 1);
+    cec_copy_bytes(adapter, &fresh, CLOTHBADGER_WIRE_OWNER, 1);
+    cec_copy_bytes(adapter, &fresh, CLOTHBADGER_CAPABILITIES, 2);
+    cec_copy_bytes(adapter, &fresh, CLOTHBADGER_PHYSICAL_ADDRESS, 2);
+    cec_copy_bytes(adapter, &fresh, CLOTHBADGER_NOTED, 30);
+}
+
 /* Opens the lowest closed handle, in mode CEC_MODE_INITIATOR. Privileged stands for CAP_NET_ADMIN. EMFILE: eight are open. */
 static inline struct cec_open_answer cec_open(struct cec_adapter *adapter, bool privileged)
 {
     struct cec_after_open after = cec_adapter_open(*adapter, privileged);
+    struct cec_open_answer answer;
     *adapter = after.adapter;
-    return after.answer;
+    memset(&answer, 0, sizeof answer);
+    answer.error = after.answer.error;
+    answer.handle = after.answer.handle;
+    return answer;
 }
 
 /* Closes a handle: its mode, inbox and waits are gone; its messages, queued or on the wire, stay there and bring no result or reply. EBADF. */
-static inline uint32_t cec_close(struct cec_adapter *adapter, uint8_t handle)
+static inline uint32_t cec_close(struct cec_adapter *adapter, unsigned handle)
 {
-    struct cec_after after = cec_adapter_close(*adapter, handle);
+    struct cec_after after = cec_adapter_close(*adapter, cec_narrow(handle));
     *adapter = after.adapter;
     return after.error;
 }
 
 /* CEC_S_MODE: an initiator part and a follower part. EBADF, EINVAL. EPERM: monitor without privilege. EBUSY: another holds the exclusive role. */
-static inline uint32_t cec_set_mode(struct cec_adapter *adapter, uint8_t handle, uint32_t mode)
+static inline uint32_t cec_set_mode(struct cec_adapter *adapter, unsigned handle, uint32_t mode)
 {
-    struct cec_after after = cec_adapter_set_mode(*adapter, handle, mode);
+    struct cec_after after = cec_adapter_set_mode(*adapter, cec_narrow(handle), mode);
     *adapter = after.adapter;
     return after.error;
 }
@@ -294,36 +356,53 @@ static inline uint32_t cec_set_mode(struct cec_adapter *adapter, uint8_t handle,
  * CEC_MSG_FL_REPLY_TO_FOLLOWERS is set, get copies with sequence 0. A poll to an own address is not queued: its answer has
  * CEC_TX_STATUS_NACK at once. EBADF, ENOTTY, EPERM, EBUSY, EINVAL, ENONET.
  */
-static inline struct cec_transmit_answer cec_transmit(struct cec_adapter *adapter, uint8_t handle, struct cec_request request)
+static inline struct cec_transmit_answer cec_transmit(struct cec_adapter *adapter, unsigned handle, struct cec_request request)
 {
-    struct cec_after_transmit after = cec_adapter_transmit(*adapter, handle, request);
+    struct cec_after_transmit after = cec_adapter_transmit(*adapter, cec_narrow(handle), request);
+    struct cec_transmit_answer answer;
     *adapter = after.adapter;
-    return after.answer;
+    memset(&answer, 0, sizeof answer);
+    answer.error = after.answer.error;
+    answer.sequence = after.answer.sequence;
+    answer.tx_status = after.answer.tx_status;
+    return answer;
 }
 
 /* CEC_RECEIVE of a handle that does not block: gives the oldest entry of the inbox and takes it out. EBADF. EAGAIN: there is none. */
-static inline struct cec_receive_answer cec_receive(struct cec_adapter *adapter, uint8_t handle)
+static inline struct cec_receive_answer cec_receive(struct cec_adapter *adapter, unsigned handle)
 {
-    struct cec_after_receive after = cec_adapter_receive(*adapter, handle);
+    struct cec_after_receive after = cec_adapter_receive(*adapter, cec_narrow(handle));
+    struct cec_receive_answer answer;
     *adapter = after.adapter;
-    return after.answer;
+    memset(&answer, 0, sizeof answer);
+    answer.error = after.answer.error;
+    answer.entry.sequence = after.answer.entry.sequence;
+    answer.entry.tx_status = after.answer.entry.tx_status;
+    answer.entry.rx_status = after.answer.entry.rx_status;
+    answer.entry.message = after.answer.entry.message;
+    answer.entry.counts = after.answer.entry.counts;
+    return answer;
 }
 
 /* The driver asks what to send: the oldest message of the queue, on the wire from now on. EBUSY: the wire is taken. EAGAIN: nothing is queued. */
 static inline struct cec_bus_start_answer cec_bus_start(struct cec_adapter *adapter)
 {
     struct cec_after_bus_start after = cec_adapter_bus_start(*adapter);
+    struct cec_bus_start_answer answer;
     *adapter = after.adapter;
-    return after.answer;
+    memset(&answer, 0, sizeof answer);
+    answer.error = after.answer.error;
+    answer.message = after.answer.message;
+    return answer;
 }
 
 /*
  * The driver says how the message on the wire ended: exactly one of CEC_TX_STATUS_OK, _MAX_RETRIES, _ABORTED and _TIMEOUT,
  * others beside it, and how often each thing went wrong. EINVAL: any other status, or nothing on the wire.
  */
-static inline uint32_t cec_bus_result(struct cec_adapter *adapter, uint8_t status, struct cec_counts counts)
+static inline uint32_t cec_bus_result(struct cec_adapter *adapter, unsigned status, struct cec_counts counts)
 {
-    struct cec_after after = cec_adapter_bus_result(*adapter, status, counts);
+    struct cec_after after = cec_adapter_bus_result(*adapter, cec_narrow(status), counts);
     *adapter = after.adapter;
     return after.error;
 }
@@ -366,13 +445,21 @@ static inline uint32_t cec_unconfigure(struct cec_adapter *adapter)
 /* Fills the first eight of the rows, one for each handle number. EINVAL: under eight rows. */
 static inline uint32_t cec_listing(const struct cec_adapter *adapter, struct cec_row *rows, size_t count)
 {
-    return cec_adapter_listing(*adapter, rows, count);
+    uint32_t error = cec_adapter_listing(*adapter, rows, count);
+    for (size_t i = 0; error == 0 && i < 8; i++)
+        memset(rows[i].reserved, 0, sizeof rows[i].reserved);
+    return error;
 }
 
 /* The physical address that a device reported, CEC_PHYS_ADDR_INVALID if none. EINVAL: the logical address is over 14. */
-static inline struct cec_lookup_answer cec_lookup(const struct cec_adapter *adapter, uint8_t address)
+static inline struct cec_lookup_answer cec_lookup(const struct cec_adapter *adapter, unsigned address)
 {
-    return cec_adapter_lookup(*adapter, address);
+    struct cec_lookup_answer noted = cec_adapter_lookup(*adapter, cec_narrow(address));
+    struct cec_lookup_answer answer;
+    memset(&answer, 0, sizeof answer);
+    answer.error = noted.error;
+    answer.address = noted.address;
+    return answer;
 }
 
 #ifdef __cplusplus
