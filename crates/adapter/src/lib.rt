@@ -58,17 +58,6 @@ pub struct Started {
     pub message: Message,
 }
 
-// The answer of a call that gives nothing more.
-fn of_done(answer: parts::Done) -> Done
-    ensures { λ r. ⌜ r ≡ record { adapter = record { parts = answer .parts }; errno = answer .errno } ⌝ }
-{
-    let parts = answer.parts;
-    Done {
-        adapter: Adapter { parts: parts },
-        errno: answer.errno,
-    }
-}
-
 impl Adapter {
     // A fresh adapter, for any capabilities.
     pub fn fresh(can_transmit: bool, can_monitor_all: bool) -> Adapter
@@ -83,12 +72,12 @@ impl Adapter {
         ensures { λ r. ⌜ openedOf r ≡ step (stateOf self) (callOpen privileged) ⌝ }
         ensures { λ r. ⌜ (r .errno ≢ 0 → r ≡ refusedOpen self (r .errno)) ⌝ }
     {
-        let answer = open::open(self.parts, privileged);
-        let parts = answer.parts;
+        let opened = open::open(self.parts, privileged);
+        let parts = opened.parts;
         Opened {
             adapter: Adapter { parts: parts },
-            errno: answer.errno,
-            handle: answer.handle,
+            errno: opened.errno,
+            handle: opened.handle,
         }
     }
 
@@ -96,27 +85,37 @@ impl Adapter {
         ensures { λ r. ⌜ doneOf r ≡ step (stateOf self) (callClose handle) ⌝ }
         ensures { λ r. ⌜ (r .errno ≢ 0 → r ≡ refusedCall self (r .errno)) ⌝ }
     {
-        of_done(close::close(self.parts, handle))
+        let closed = close::close(self.parts, handle);
+        let parts = closed.parts;
+        Done {
+            adapter: Adapter { parts: parts },
+            errno: closed.errno,
+        }
     }
 
     pub fn mode(self, handle: u8, mode: u32) -> Done
         ensures { λ r. ⌜ doneOf r ≡ step (stateOf self) (callMode handle mode) ⌝ }
         ensures { λ r. ⌜ (r .errno ≢ 0 → r ≡ refusedCall self (r .errno)) ⌝ }
     {
-        of_done(set_mode::mode(self.parts, handle, mode))
+        let changed = set_mode::mode(self.parts, handle, mode);
+        let parts = changed.parts;
+        Done {
+            adapter: Adapter { parts: parts },
+            errno: changed.errno,
+        }
     }
 
     pub fn transmit(self, handle: u8, request: Request) -> Transmitted
         ensures { λ r. ⌜ transmittedOf r ≡ step (stateOf self) (callTransmit handle (requestOf request)) ⌝ }
         ensures { λ r. ⌜ (r .errno ≢ 0 → r ≡ refusedTransmit self (r .errno)) ⌝ }
     {
-        let answer = transmit::transmit(self.parts, handle, request);
-        let parts = answer.parts;
+        let sent = transmit::transmit(self.parts, handle, request);
+        let parts = sent.parts;
         Transmitted {
             adapter: Adapter { parts: parts },
-            errno: answer.errno,
-            number: answer.number,
-            tx_status: answer.tx_status,
+            errno: sent.errno,
+            number: sent.number,
+            tx_status: sent.tx_status,
         }
     }
 
@@ -124,12 +123,12 @@ impl Adapter {
         ensures { λ r. ⌜ receivedOf r ≡ step (stateOf self) (callReceive handle) ⌝ }
         ensures { λ r. ⌜ (r .errno ≢ 0 → r ≡ refusedReceive self (r .errno)) ⌝ }
     {
-        let answer = receive::receive(self.parts, handle);
-        let parts = answer.parts;
-        let entry = answer.entry;
+        let received = receive::receive(self.parts, handle);
+        let parts = received.parts;
+        let entry = received.entry;
         Received {
             adapter: Adapter { parts: parts },
-            errno: answer.errno,
+            errno: received.errno,
             entry: entry,
         }
     }
@@ -138,12 +137,12 @@ impl Adapter {
         ensures { λ r. ⌜ startedOf r ≡ step (stateOf self) callBusStart ⌝ }
         ensures { λ r. ⌜ (r .errno ≢ 0 → r ≡ refusedBusStart self (r .errno)) ⌝ }
     {
-        let answer = bus_start::bus_start(self.parts);
-        let parts = answer.parts;
-        let message = answer.message;
+        let started = bus_start::bus_start(self.parts);
+        let parts = started.parts;
+        let message = started.message;
         Started {
             adapter: Adapter { parts: parts },
-            errno: answer.errno,
+            errno: started.errno,
             message: message,
         }
     }
@@ -152,7 +151,12 @@ impl Adapter {
         ensures { λ r. ⌜ doneOf r ≡ step (stateOf self) (callBusResult status counts) ⌝ }
         ensures { λ r. ⌜ (r .errno ≢ 0 → r ≡ refusedCall self (r .errno)) ⌝ }
     {
-        of_done(bus_result::bus_result(self.parts, status, counts))
+        let ended = bus_result::bus_result(self.parts, status, counts);
+        let parts = ended.parts;
+        Done {
+            adapter: Adapter { parts: parts },
+            errno: ended.errno,
+        }
     }
 
     // A message came from the wire.
@@ -160,27 +164,47 @@ impl Adapter {
         ensures { λ r. ⌜ doneOf r ≡ step (stateOf self) (callMessage length bytes) ⌝ }
         ensures { λ r. ⌜ (r .errno ≢ 0 → r ≡ refusedCall self (r .errno)) ⌝ }
     {
-        of_done(incoming::message(self.parts, length, bytes))
+        let heard = incoming::message(self.parts, length, bytes);
+        let parts = heard.parts;
+        Done {
+            adapter: Adapter { parts: parts },
+            errno: heard.errno,
+        }
     }
 
     // Milliseconds passed.
     pub fn time(self, ms: u32) -> Done
         ensures { λ r. ⌜ doneOf r ≡ step (stateOf self) (callTime ms) ⌝ }
     {
-        of_done(time::time(self.parts, ms))
+        let passed = time::time(self.parts, ms);
+        let parts = passed.parts;
+        Done {
+            adapter: Adapter { parts: parts },
+            errno: passed.errno,
+        }
     }
 
     pub fn configure(self, settings: Settings) -> Done
         ensures { λ r. ⌜ doneOf r ≡ step (stateOf self) (callConfigure settings) ⌝ }
         ensures { λ r. ⌜ (r .errno ≢ 0 → r ≡ refusedCall self (r .errno)) ⌝ }
     {
-        of_done(configure::configure(self.parts, settings))
+        let configured = configure::configure(self.parts, settings);
+        let parts = configured.parts;
+        Done {
+            adapter: Adapter { parts: parts },
+            errno: configured.errno,
+        }
     }
 
     pub fn unconfigure(self) -> Done
         ensures { λ r. ⌜ doneOf r ≡ step (stateOf self) callUnconfigure ⌝ }
     {
-        of_done(unconfigure::unconfigure(self.parts))
+        let unconfigured = unconfigure::unconfigure(self.parts);
+        let parts = unconfigured.parts;
+        Done {
+            adapter: Adapter { parts: parts },
+            errno: unconfigured.errno,
+        }
     }
 
     // The handle's row in the listing; crate `listing` fills a lent table with them.

@@ -107,7 +107,9 @@ pub extern "C" fn cec_adapter_received(adapter: Adapter, message: Message) -> Do
     ensures { λ r. ⌜ doneOf r ≡ step (stateOf adapter) (callMessage (message .length) (message .bytes)) ⌝ }
     ensures { λ r. ⌜ (r .errno ≢ 0 → r ≡ refusedCall adapter (r .errno)) ⌝ }
 {
-    adapter.message(message.length(), message.bytes())
+    let length = message.length();
+    let bytes = message.bytes();
+    adapter.message(length, bytes)
 }
 
 // Milliseconds passed.

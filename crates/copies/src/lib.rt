@@ -99,10 +99,10 @@ pub fn has(handles: Handles, kind: u8) -> bool
     ensures { λ r. ⌜ r ≡ any (inRole (getsCopies kind)) (handlesOf handles) ⌝ }
 {
     let mut found = false;
-    let mut handle: u8 = 0;
-    while handle < 8 {
-        found = found | is_copied(kind, handles.at(handle));
-        handle += 1;
+    let mut number: u8 = 0;
+    while number < 8 {
+        found = found | is_copied(kind, handles.at(number));
+        number += 1;
     }
     found
 }

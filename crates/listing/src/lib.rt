@@ -59,5 +59,11 @@ fn listed_in(adapter: Adapter, rows: [Row; 8]) -> Listed
 pub fn listed_rows(adapter: Adapter) -> Listed
     ensures { λ r. ⌜ (r .errno ≡ 0) × (r .rows ≡ map (rowOf (stateOf adapter)) handleNumbers) ⌝ }
 {
-    listed_in(adapter, [closed_row(0); 8])
+    let lent = [closed_row(0); 8];
+    let listed = listed_in(adapter, lent);
+    let rows = listed.rows;
+    Listed {
+        errno: listed.errno,
+        rows: rows,
+    }
 }

@@ -13,7 +13,9 @@ listed-in-requires : tie.Need-listed-in-requires
 listed-in-requires c κs = search needs
 
 returns : tie.Need-returns
-returns c = eight-filled (stateOf (c .before .before .args .adapter)) _ _ _ refl (c .listed-in .ensures .0) (c .listed-in .ensures .1)
+returns c =
+    let listed = c .before in
+    eight-filled (stateOf (listed .before .before .args .adapter)) _ _ _ refl (listed .listed-in .ensures .0) (listed .listed-in .ensures .1)
 
 pub listed-rows-spec : {M : Type 1} → statement M
 listed-rows-spec = tie.close (tie.spec closed-row-requires listed-in-requires returns)

@@ -30,9 +30,11 @@ unfolding doLookup
 returns-2 c =
     let a = c .before .before .before .args in
     let e = c .before .before .lookup-errno .ensures in
-    let within = taken (a .address) (sym e ∙ c .before .if1 .left) in
-    (rw (getD-within (a .t1 .noted) (a .address) CEC-PHYS-ADDR-INVALID 0 (omega (arith, noted-long (a .t1) _ (c .before .before .before .good .0))))
-    (done-outcome (stateOf (a .t1)) _ _ _ e (c .before .if1 .left)), λ z. absurd (z refl))
+    let within = taken (a .address) (sym e ∙ c .before .if1 .left) in (
+      rw (getD-within (a .t1 .noted) (a .address) CEC-PHYS-ADDR-INVALID 0 (omega (arith, noted-long (a .t1) _ (c .before .before .before .good .0))))
+          (done-outcome (stateOf (a .t1)) _ _ _ e (c .before .if1 .left)),
+      λ z. absurd (z refl),
+    )
 
 pub noted-address-spec : {M : Type 1} → statement M
 noted-address-spec =

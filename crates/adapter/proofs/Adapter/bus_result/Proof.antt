@@ -7,11 +7,8 @@ use Rattle.adapter.proofs.Adapter.bus_result.Tie as tie
 bus-result-requires : tie.Need-bus-result-requires
 bus-result-requires c κs = search needs
 
-of-done-requires : tie.Need-of-done-requires
-of-done-requires c κs = search needs
-
 returns : tie.Need-returns
-returns c = rw (c .of-done .ensures) (c .before .bus-result .ensures .0, λ z. refused-call _ _ _ (c .before .bus-result .ensures .1 z))
+returns c = (c .before .bus-result .ensures .0, λ z. refused-call _ _ _ (c .before .bus-result .ensures .1 z))
 
 pub bus-result-spec : {M : Type 1} → statement M
-bus-result-spec = tie.close (tie.spec bus-result-requires of-done-requires returns)
+bus-result-spec = tie.close (tie.spec bus-result-requires returns)

@@ -7,11 +7,8 @@ use Rattle.adapter.proofs.Adapter.close.Tie as tie
 close-requires : tie.Need-close-requires
 close-requires c κs = search needs
 
-of-done-requires : tie.Need-of-done-requires
-of-done-requires c κs = search needs
-
 returns : tie.Need-returns
-returns c = rw (c .of-done .ensures) (c .before .close .ensures .0, λ z. refused-call _ _ _ (c .before .close .ensures .1 z))
+returns c = (c .before .close .ensures .0, λ z. refused-call _ _ _ (c .before .close .ensures .1 z))
 
 pub close-spec : {M : Type 1} → statement M
-close-spec = tie.close (tie.spec close-requires of-done-requires returns)
+close-spec = tie.close (tie.spec close-requires returns)

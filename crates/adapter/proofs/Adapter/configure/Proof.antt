@@ -7,11 +7,8 @@ use Rattle.adapter.proofs.Adapter.configure.Tie as tie
 configure-requires : tie.Need-configure-requires
 configure-requires c κs = search needs
 
-of-done-requires : tie.Need-of-done-requires
-of-done-requires c κs = search needs
-
 returns : tie.Need-returns
-returns c = rw (c .of-done .ensures) (c .before .configure .ensures .0, λ z. refused-call _ _ _ (c .before .configure .ensures .1 z))
+returns c = (c .before .configure .ensures .0, λ z. refused-call _ _ _ (c .before .configure .ensures .1 z))
 
 pub configure-spec : {M : Type 1} → statement M
-configure-spec = tie.close (tie.spec configure-requires of-done-requires returns)
+configure-spec = tie.close (tie.spec configure-requires returns)

@@ -7,11 +7,8 @@ use Rattle.adapter.proofs.Adapter.message.Tie as tie
 message-requires : tie.Need-message-requires
 message-requires c κs = search needs
 
-of-done-requires : tie.Need-of-done-requires
-of-done-requires c κs = search needs
-
 returns : tie.Need-returns
-returns c = rw (c .of-done .ensures) (c .before .message .ensures .0, λ z. refused-call _ _ _ (c .before .message .ensures .1 z))
+returns c = (c .before .message .ensures .0, λ z. refused-call _ _ _ (c .before .message .ensures .1 z))
 
 pub message-spec : {M : Type 1} → statement M
-message-spec = tie.close (tie.spec message-requires of-done-requires returns)
+message-spec = tie.close (tie.spec message-requires returns)

@@ -7,11 +7,8 @@ use Rattle.adapter.proofs.Adapter.mode.Tie as tie
 mode-requires : tie.Need-mode-requires
 mode-requires c κs = search needs
 
-of-done-requires : tie.Need-of-done-requires
-of-done-requires c κs = search needs
-
 returns : tie.Need-returns
-returns c = rw (c .of-done .ensures) (c .before .mode .ensures .0, λ z. refused-call _ _ _ (c .before .mode .ensures .1 z))
+returns c = (c .before .mode .ensures .0, λ z. refused-call _ _ _ (c .before .mode .ensures .1 z))
 
 pub mode-spec : {M : Type 1} → statement M
-mode-spec = tie.close (tie.spec mode-requires of-done-requires returns)
+mode-spec = tie.close (tie.spec mode-requires returns)

@@ -6,11 +6,8 @@ use Rattle.adapter.proofs.Adapter.unconfigure.Tie as tie
 unconfigure-requires : tie.Need-unconfigure-requires
 unconfigure-requires c κs = search needs
 
-of-done-requires : tie.Need-of-done-requires
-of-done-requires c κs = search needs
-
 returns : tie.Need-returns
-returns c = rw (c .of-done .ensures) (c .before .unconfigure .ensures)
+returns c = (c .before .unconfigure .ensures)
 
 pub unconfigure-spec : {M : Type 1} → statement M
-unconfigure-spec = tie.close (tie.spec unconfigure-requires of-done-requires returns)
+unconfigure-spec = tie.close (tie.spec unconfigure-requires returns)
