@@ -22,10 +22,10 @@ m = message 2 (replicate 16 0)
 
 -- handles 0 and 1 open, with these inboxes
 abbrev state : List Entry → List Entry → State
-state zero one = record {
+state inbox0 inbox1 = record {
   capabilities = record { transmit = true; monitorAll = true };
   handles = openedHandle true ∷ openedHandle true ∷ replicate 6 closedHandle;
-  inboxes = zero ∷ one ∷ replicate 6 [];
+  inboxes = inbox0 ∷ inbox1 ∷ replicate 6 [];
   queue = [];
   wire = [];
   waits = [];
@@ -49,7 +49,7 @@ answer = reply 1 m
 
 -- a result, delivered
 abbrev sent : List Entry → List Entry → Step
-sent zero one = call (callBusResult 0x01 noCounts) done (state [] []) (state zero one)
+sent inbox0 inbox1 = call (callBusResult 0x01 noCounts) done (state [] []) (state inbox0 inbox1)
 
 -- the result goes to handle 1
 pub wrong-handle : Kept (asked ∷ sent [] (ok ∷ []) ∷ []) → ⊥

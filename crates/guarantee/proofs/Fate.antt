@@ -194,10 +194,10 @@ module _ (h : ℕ) (x : Request) (n : ℕ) (s : State) (r : Inv s) (b : Began h 
         (reply-asked past y rest e k, omega (arith, ap (okResults n) (p .ran), reply-after (p .before) (p .call) (p .ungiven) (rw (p .here) at k)));
     oneReply = λ past y rest e g o w k t.
         let p = parted s cs past y rest e in
-        let all : past ++ y ∷ rest ≡ run s (p .before) ++ stepOf (after s (p .before)) (p .call) ∷ run (step (after s (p .before)) (p .call) .state) (p .later) = ap₂ _++_ (p .ran) (ap₂ _∷_ (p .here) (p .runs)) in
+        let whole : past ++ y ∷ rest ≡ run s (p .before) ++ stepOf (after s (p .before)) (p .call) ∷ run (step (after s (p .before)) (p .call) .state) (p .later) = ap₂ _++_ (p .ran) (ap₂ _∷_ (p .here) (p .runs)) in
         replies-here
-        ∙ ap (λ (ys : List Step). cameTo (isReplyEntry n) h (own n ys)) (e ∙ all)
-        ∙ reply-comes (p .before) (p .call) (p .later) (rw (p .ran) at g) (rw (p .here) at o) w (sym (ap (closings h) (e ∙ all)) ∙ k) (rw (p .runs) at t);
+        ∙ ap (λ (ys : List Step). cameTo (isReplyEntry n) h (own n ys)) (e ∙ whole)
+        ∙ reply-comes (p .before) (p .call) (p .later) (rw (p .ran) at g) (rw (p .here) at o) w (sym (ap (closings h) (e ∙ whole)) ∙ k) (rw (p .runs) at t);
     ownHandle = nothing-else;
     neverAfterClose = λ past y rest e k.
         let p = own-parted n s cs past y rest e in

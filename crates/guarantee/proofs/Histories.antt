@@ -6,7 +6,7 @@ use mathlib.Core.List.{List, [], _∷_, _++_}
 use mathlib.Core.Path.{_≡_, refl}
 use lib.ListN.{drop, replicate, length}
 use Rattle.entry.specs.Entry.{noCounts}
-use Rattle.guarantee.specs.Seen.{came, gave, results, okResults, replies, busResults, closings, elapsed, own, sinceOpen, all}
+use Rattle.guarantee.specs.Seen.{came, gave, results, okResults, replies, busResults, closings, elapsed, own, sinceOpen, joined}
 use Rattle.message.specs.Message.{message}
 use Rattle.message.specs.Reply.{isReply}
 use Rattle.rules.specs.BusResult.{doBusResult, isFinal, keptCounts}
@@ -52,7 +52,7 @@ seen n later = results n (own n later) ∷ okResults n (own n later) ∷ replies
 
 -- what came to handle h since its open, what its receives gave, and what is left
 abbrev entries : ℕ → List Step → List ℕ
-entries h xs = length (all (came h) (sinceOpen h xs)) ∷ length (all (gave h) (sinceOpen h xs)) ∷ []
+entries h xs = length (joined (came h) (sinceOpen h xs)) ∷ length (joined (gave h) (sinceOpen h xs)) ∷ []
 
 abbrev sending : List Call
 sending = callBusStart ∷ callBusResult 0x01 noCounts ∷ callBusStart ∷ callBusResult 0x01 noCounts ∷ []
