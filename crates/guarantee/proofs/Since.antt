@@ -23,6 +23,7 @@ use Rattle.inbox.specs.Inboxes.{inboxOf}
 use Rattle.lists.specs.Elements.{empty-list}
 use Rattle.lists.specs.Sums.{any}
 use Rattle.lists.specs.Tests.{split, clash, neither}
+use Rattle.rules.proofs.SameModes.{same-open}
 use Rattle.rules.specs.Call.{Call, Outcome, finish, done, opened, received, callOpen, callClose, callReceive}
 use Rattle.rules.specs.Close.{closed}
 use Rattle.rules.specs.Handles.{isOpen}
@@ -86,7 +87,7 @@ module _ (h : ℕ) (l : h < 8) (s : State) (r : Inv s) where
   ended-order : (c : Call) (t : State) → Ends s c t → InOrder h s c (finish done t)
   ended-order c t e = record {
     order = λ _. ap (λ (m : List Entry). inboxOf (s .inboxes) h ++ m) (ended-came s c t e h l) ∙ sym (e .comes h l .mail .grown);
-    was = λ _ a. (sym (e .opens h) ∙ a, e .closes h);
+    was = λ _ a. (sym (same-open s t (e .modes) h) ∙ a, e .closes h);
     new = λ n. clash n refl;
   }
 
