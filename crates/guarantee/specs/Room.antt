@@ -8,6 +8,7 @@ use lib.ListN.{length}
 use Rattle.entry.specs.Entry.{resultCopy, messageCopy}
 use Rattle.entry.specs.declared.Counts.{Counts}
 use Rattle.inbox.specs.Inboxes.{inboxOf}
+use Rattle.lists.specs.Sums.{count}
 use Rattle.message.specs.declared.Message.{Message}
 use Rattle.rules.specs.Call.{Call}
 use Rattle.rules.specs.Deliver.{copies, each}
@@ -19,6 +20,7 @@ use Rattle.rules.specs.Step.{after}
 use Rattle.rules.specs.Time.{overdue, remaining, timeOut}
 use Rattle.rules.specs.Unconfigure.{abortTransmit, abortWait, unset}
 use Rattle.transmission.specs.declared.Transmission.{Transmission}
+use Rattle.wait.specs.Wait.{ownedBy}
 use Rattle.wait.specs.declared.Wait.{Wait}
 
 -- handle h can be given one more entry
@@ -41,6 +43,8 @@ pub record Room (s : State) : Type 0 where
   -- the queue and the wire hold no more than they can
   pub queue : length (s .queue) ≤ 18
   pub wire : length (s .wire) ≤ 1
+  -- "Waits: at most 4 per handle (H)."
+  pub waits : (h : ℕ) → count (ownedBy h) (s .waits) ≤ 4
 
 -- in every state that calls lead to from a fresh adapter
 abbrev pub AlwaysRoom : Type 0
