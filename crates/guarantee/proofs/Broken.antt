@@ -7,8 +7,9 @@ use native.Mathlib.Omega.{arith}
 use lib.ListN.{length, replicate}
 use Rattle.entry.specs.Entry.{noCounts, result, reply, messageCopy}
 use Rattle.entry.specs.declared.Entry.{Entry}
-use Rattle.guarantee.proofs.Histories.{asks}
+use Rattle.guarantee.proofs.Histories.{asks, tells}
 use Rattle.guarantee.specs.Claim.{Kept}
+use Rattle.lists.specs.Tests.{clash}
 use Rattle.message.specs.Message.{message}
 use Rattle.message.specs.declared.Message.{Message}
 use Rattle.rules.specs.Call.{Call, Answer, done, opened, accepted, callOpen, callClose, callTransmit, callBusResult, callMessage, callTime}
@@ -55,9 +56,36 @@ sent inbox0 inbox1 = call (callBusResult 0x01 noCounts) done (state [] []) (stat
 pub wrong-handle : Kept (asked ∷ sent [] (ok ∷ []) ∷ []) → ⊥
 wrong-handle k = let z = k .transmits [] asked (sent [] (ok ∷ []) ∷ []) refl 0 asks 1 refl refl .ownHandle 1 (omega arith) .0 in omega arith
 
+-- the reply goes to handle 1, though handle 0 asked and had the result
+abbrev replied : List Entry → List Entry → Step
+replied inbox0 inbox1 = call (callMessage 3 (replicate 16 0)) done (state (ok ∷ []) []) (state inbox0 inbox1)
+
+pub wrong-reply : Kept (asked ∷ sent (ok ∷ []) [] ∷ replied (ok ∷ []) (answer ∷ []) ∷ []) → ⊥
+wrong-reply k =
+    let later = sent (ok ∷ []) [] ∷ replied (ok ∷ []) (answer ∷ []) ∷ [] in
+    let z = k .transmits [] asked later refl 0 asks 1 refl refl .ownHandle 1 (omega arith) .1 in
+    omega arith
+
 -- two results
 pub two-results : Kept (asked ∷ sent (ok ∷ ok ∷ []) [] ∷ []) → ⊥
 two-results k = let z = k .transmits [] asked (sent (ok ∷ ok ∷ []) [] ∷ []) refl 0 asks 1 refl refl .oneResultAtMost in omega arith
+
+-- two replies
+pub two-replies : Kept (asked ∷ sent (ok ∷ []) [] ∷ replied (ok ∷ answer ∷ answer ∷ []) [] ∷ []) → ⊥
+two-replies k =
+    let later = sent (ok ∷ []) [] ∷ replied (ok ∷ answer ∷ answer ∷ []) [] ∷ [] in
+    let z = k .transmits [] asked later refl 0 asks 1 refl refl .oneReplyAtMost in
+    omega arith
+
+-- a reply to a transmit that asked for none
+abbrev told : Step
+told = call (callTransmit 0 tells) (accepted 1 0) (state [] []) (state [] [])
+
+pub unasked : Kept (told ∷ sent (ok ∷ []) [] ∷ replied (ok ∷ answer ∷ []) [] ∷ []) → ⊥
+unasked k =
+    let ended = sent (ok ∷ []) [] in
+    let then = replied (ok ∷ answer ∷ []) [] in
+    clash (k .transmits [] told (ended ∷ then ∷ []) refl 0 tells 1 refl refl .replyAfterResult (ended ∷ []) then [] refl (omega arith) .0) refl
 
 -- a reply after a close
 abbrev shut : Step

@@ -46,4 +46,4 @@ inboxes-kept c calls past x e h o =
 
 -- the whole claim
 pub claim : Claim
-claim c calls = record { transmits = transmits-kept c calls; inboxes = inboxes-kept c calls }
+claim c calls = record { transmits = transmits-kept c calls; inboxes = λ past x e h o. cc (inboxes-kept c calls past x e h o) }

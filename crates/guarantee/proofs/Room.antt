@@ -16,7 +16,7 @@ use Rattle.guarantee.proofs.Invariant.{Inv, improperWait}
 use Rattle.guarantee.proofs.Reached.{reached}
 use Rattle.guarantee.proofs.TimeEnds.{sum-time}
 use Rattle.guarantee.proofs.UnconfigureEnds.{owed-each}
-use Rattle.guarantee.specs.Room.{HasRoom, Room, AlwaysRoom}
+use Rattle.guarantee.specs.Room.{HasRoom, handleWaits, Room, AlwaysRoom}
 use Rattle.inbox.specs.Inboxes.{inboxOf}
 use Rattle.lists.specs.Sums.{sum-one-of, sum-le, count}
 use Rattle.lists.specs.Tests.{bit, split, eqb-refl}
@@ -99,7 +99,7 @@ module _ (s : State) (r : Inv s) where
       (omega arith)
 
   -- a handle's waits are among the replies that it wants; a number over 7 has none
-  few-waits : (h : ℕ) → count (ownedBy h) (s .waits) ≤ 4
+  few-waits : (h : ℕ) → count (ownedBy h) (s .waits) ≤ handleWaits
   unfolding repliesWanted
   few-waits h =
       split (ltb h 8)
@@ -114,7 +114,7 @@ module _ (s : State) (r : Inv s) where
   room = record {
     owed = r .room;
     result = λ t e l status counts. copied-room _ (copies-aside isMonitor (resultCopy status counts (t .message)) (resultCopy-shows status counts (t .message) .sequence) s) (t .owner) l (owed-transmit [] t (s .queue) (ap (λ (ts : List Transmission). ts ++ s .queue) e));
-    wait = λ t e w. wait-fits s t r e w;
+    wait = λ t e w. omega (arith, wait-fits s t r e w);
     reply = λ past w rest e m. copied-room _ (copies-aside (monitors s m) (messageCopy m) (messageCopy-shows m .sequence) s) (w .owner) (home past w rest e) (owed-wait past w rest e);
     timeout = timeout-room;
     abortedTransmit = transmit-room;
