@@ -191,7 +191,7 @@ module _ (h : ℕ) (x : Request) (n : ℕ) (s : State) (r : Inv s) (b : Began h 
     oneReplyAtMost = omega (arith, reply-once);
     replyAfterResult = λ past y rest e k.
         let p = own-parted n s cs past y rest e in
-        (reply-asked past y rest e k, omega (arith, ap (okResults n) (p .ran), reply-after (p .before) (p .call) (p .ungiven) (rw (p .here) at k)));
+        (cc (reply-asked past y rest e k), omega (arith, ap (okResults n) (p .ran), reply-after (p .before) (p .call) (p .ungiven) (rw (p .here) at k)));
     oneReply = λ past y rest e g o w k t.
         let p = parted s cs past y rest e in
         let whole : past ++ y ∷ rest ≡ run s (p .before) ++ stepOf (after s (p .before)) (p .call) ∷ run (step (after s (p .before)) (p .call) .state) (p .later) = ap₂ _++_ (p .ran) (ap₂ _∷_ (p .here) (p .runs)) in

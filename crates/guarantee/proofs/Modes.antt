@@ -64,7 +64,7 @@ module _ (s : State) (r : Inv s) (k : ModesHeld s) (h : ℕ) (o : isOpen s h ≡
 
   not-refused : modeRefusal s h (handleAt s h .mode) ≡ 0
   unfolding check
-  not-refused = rw (o, k .valid h o, k .permitted h o, not-held isExclusiveInitiator (k .initiator), not-held isExclusiveFollower (k .follower))
+  not-refused = rw (o, k .valid h o, k .permitted h o, not-held isExclusiveInitiator (omega (arith, k .initiator)), not-held isExclusiveFollower (omega (arith, k .follower)))
 
   own-mode : doMode s h (handleAt s h .mode) ≡ finish done s
   unfolding doMode

@@ -46,8 +46,8 @@ module _ (s : State) where
   set-held i v a b c d k = record {
     valid = none-passes (λ x. isModeInvalid s (x .mode)) i v a (k .valid);
     permitted = none-passes (λ x. isMonitor (x .mode) && not (x .privileged)) i v b (k .permitted);
-    initiator = one-set (inRole isExclusiveInitiator) (s .handles) i v c (k .initiator);
-    follower = one-set (inRole isExclusiveFollower) (s .handles) i v d (k .follower);
+    initiator = omega (arith, one-set (inRole isExclusiveInitiator) (s .handles) i v c (omega (arith, k .initiator)));
+    follower = omega (arith, one-set (inRole isExclusiveFollower) (s .handles) i v d (omega (arith, k .follower)));
   }
 
   -- the mode 0x01 of an open; none of a close
