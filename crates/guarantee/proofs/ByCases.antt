@@ -91,7 +91,7 @@ module _ (s : State) (r : Inv s) (P : Call → Outcome → Type 0) (k : Cases s 
       let c : isOpen s i ≡ false = not-true (isOpen s i) (first-passes (λ (x : Handle). not (x .«is_open»)) (s .handles) closedHandle l) in
       k .whenOpened i p (omega (arith, r .handles)) c (λ h. same-came h (stepFrom s (callOpen p) (openDone s p)) refl refl)
 
-  -- a mode leaves every handle open or closed
+  -- a mode that is taken leaves every handle open or closed
   mode-case : (g mode : ℕ) → modeRefusal s g mode ≡ 0 → P (callMode g mode) (finish done (withHandles s (set (s .handles) g (inMode (handleAt s g) mode))))
   mode-case g mode z = quietly (callMode g mode) done (set (s .handles) g (inMode (handleAt s g) mode)) (s .last) (s .settings) (s .noted) (record {
     handles = length-set (s .handles) g (inMode (handleAt s g) mode);

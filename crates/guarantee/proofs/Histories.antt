@@ -101,16 +101,16 @@ again (suc k) cs more = cs ++ again k cs more
 abbrev busy : State
 busy = after start (begin 2 (callTransmit 0 tells ∷ callBusStart ∷ replicate 9 (callTransmit 0 tells) ++ replicate 8 (callTransmit 1 tells)))
 
--- handle 1 sends one more, under number 19; the bus sends what is before it, and then it
+-- handle 1 sends one more, under number 19; what was before it is sent, and it is on the wire; then some more calls
 abbrev behind : List Call → List Step
 behind more = run (step busy (callTransmit 1 tells) .state) (again 18 (callBusResult 0x01 noCounts ∷ callBusStart ∷ []) more)
 
 -- it has not had its result after one bus result less than nineteen, and has it with the nineteenth
-last-of-nineteen : (step busy (callTransmit 1 tells) .answer ≡ accepted 19 0)
+last-of-nineteen : (length (busy .wire) ≡ 1) × (length (busy .queue) ≡ 17) × (step busy (callTransmit 1 tells) .answer ≡ accepted 19 0)
     × (busResults (behind []) + 1 ≡ nineteen) × (results 19 (own 19 (behind [])) ≡ 0)
     × (busResults (behind (callBusResult 0x01 noCounts ∷ [])) ≡ nineteen) × (results 19 (own 19 (behind (callBusResult 0x01 noCounts ∷ []))) ≡ 1)
-unfolding message isReply matchTaken fresh roomOwed repliesWanted isTaken copyTo copies unless check doOpen doClose numberAfter doTransmit doReceive doBusStart doBusResult isFinal keptCounts doTime doConfigure doUnconfigure sends answers notes doMessage heard
-last-of-nineteen = (refl, refl, refl, refl, refl)
+unfolding message fresh roomOwed repliesWanted isTaken copies unless check doOpen numberAfter doTransmit doBusStart doBusResult isFinal keptCounts doConfigure
+last-of-nineteen = (refl, refl, refl, refl, refl, refl, refl)
 
 -- a handle asks, and its message is sent; each of several handles, four times
 abbrev asking : ℕ → List Call
@@ -126,5 +126,5 @@ full = after start (begin 8 (allAsking (0 ∷ 1 ∷ 2 ∷ 3 ∷ 4 ∷ 5 ∷ 6 �
 
 -- a handle has as many waits as it may, and the next wait takes the last place
 most-waits : (count (ownedBy 0) (full .waits) ≡ handleWaits) × (length (full .waits) + 1 ≡ allWaits) × (map (λ t. t .«wants_reply») (full .wire) ≡ true ∷ [])
-unfolding message isReply matchTaken fresh roomOwed repliesWanted isTaken copyTo copies unless check doOpen doClose numberAfter doTransmit doReceive doBusStart doBusResult isFinal keptCounts doTime doConfigure doUnconfigure sends answers notes doMessage heard
+unfolding message fresh roomOwed repliesWanted isTaken copies unless check doOpen numberAfter doTransmit doBusStart doBusResult isFinal keptCounts doConfigure
 most-waits = (refl, refl, refl)

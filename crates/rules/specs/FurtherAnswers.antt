@@ -125,10 +125,10 @@ furtherAnswers =
     ∷ record { start = bench true; calls = callOpen true ∷ callOpen true ∷ times 10 (plain 0) (callBusStart ∷ times 9 (plain 1) []); gives = 0 ∷ 19 ∷ 0 ∷ [] }
     ∷ record { start = bench true; calls = callOpen true ∷ callOpen true ∷ times 10 (plain 0) (callBusStart ∷ times 9 (plain 1) (plain 2 ∷ [])); gives = EBUSY ∷ [] }
     -- the core's answer may be the 18th, and then there is no 19th; with 18 queued it is dropped
-    ∷ record { start = bench true; calls = callOpen true ∷ times 9 (plain 0) (times 8 (plain 1) (incoming (0x04 ∷ 0x9F ∷ []) ∷ sentFirst 17 (callBusStart ∷ []))); gives = out (0x40 ∷ 0x9E ∷ 0x05 ∷ []) }
-    ∷ record { start = bench true; calls = callOpen true ∷ times 9 (plain 0) (times 8 (plain 1) (incoming (0x04 ∷ 0x9F ∷ []) ∷ plain 1 ∷ [])); gives = EBUSY ∷ [] }
-    ∷ record { start = bench true; calls = callOpen true ∷ times 9 (plain 0) (times 9 (plain 1) (incoming (0x04 ∷ 0x9F ∷ []) ∷ sentFirst 17 (callBusStart ∷ []))); gives = out (0x40 ∷ 0x8F ∷ []) }
-    ∷ record { start = bench true; calls = callOpen true ∷ times 9 (plain 0) (times 9 (plain 1) (incoming (0x04 ∷ 0x9F ∷ []) ∷ sentFirst 18 (callBusStart ∷ []))); gives = EAGAIN ∷ [] }
+    ∷ record { start = bench true; calls = callOpen true ∷ times 16 (plain 0) (plain 1 ∷ incoming (0x04 ∷ 0x9F ∷ []) ∷ sentFirst 17 (callBusStart ∷ [])); gives = out (0x40 ∷ 0x9E ∷ 0x05 ∷ []) }
+    ∷ record { start = bench true; calls = callOpen true ∷ times 16 (plain 0) (plain 1 ∷ incoming (0x04 ∷ 0x9F ∷ []) ∷ plain 1 ∷ []); gives = EBUSY ∷ [] }
+    ∷ record { start = bench true; calls = callOpen true ∷ times 16 (plain 0) (plain 1 ∷ plain 1 ∷ incoming (0x04 ∷ 0x9F ∷ []) ∷ sentFirst 17 (callBusStart ∷ [])); gives = out (0x40 ∷ 0x8F ∷ []) }
+    ∷ record { start = bench true; calls = callOpen true ∷ times 16 (plain 0) (plain 1 ∷ plain 1 ∷ incoming (0x04 ∷ 0x9F ∷ []) ∷ sentFirst 18 (callBusStart ∷ [])); gives = EAGAIN ∷ [] }
     -- 4 wanted replies, and no 5th
     ∷ record { start = bench true; calls = times 4 (asking 0) []; gives = 0 ∷ 4 ∷ 0 ∷ [] }
     ∷ record { start = bench true; calls = times 5 (asking 0) []; gives = EBUSY ∷ [] }
