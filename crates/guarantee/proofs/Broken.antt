@@ -1,6 +1,7 @@
--- Histories that no adapter may have, each with one thing wrong: the claim is false of each.
+-- Histories that no adapter may have, each with one thing wrong: the claim is false of each. So with modes.
 -- Assumes nothing.
-use mathlib.Core.Bool.{true}
+use Prim.Native.Nat.{ℕ}
+use mathlib.Core.Bool.{true, false}
 use mathlib.Core.List.{List, [], _∷_}
 use mathlib.Core.Path.{refl, ap}
 use native.Mathlib.Omega.{arith}
@@ -9,12 +10,14 @@ use Rattle.entry.specs.Entry.{noCounts, result, reply, messageCopy}
 use Rattle.entry.specs.declared.Entry.{Entry}
 use Rattle.guarantee.proofs.Histories.{asks, tells}
 use Rattle.guarantee.specs.Claim.{Kept}
+use Rattle.guarantee.specs.Modes.{ModesHeld}
 use Rattle.lists.specs.Tests.{clash}
 use Rattle.message.specs.Message.{message}
 use Rattle.message.specs.declared.Message.{Message}
 use Rattle.rules.specs.Call.{Call, Answer, done, opened, accepted, callOpen, callClose, callTransmit, callBusResult, callMessage, callTime}
+use Rattle.rules.specs.Mode.{inMode}
 use Rattle.rules.specs.Open.{openedHandle}
-use Rattle.rules.specs.State.{State, closedHandle, noSettings, noneNoted}
+use Rattle.rules.specs.State.{State, closedHandle, noSettings, noneNoted, withHandles}
 use Rattle.rules.specs.Step.{Step}
 
 -- a message, whatever it says
@@ -127,3 +130,22 @@ other = call (callBusResult 0x01 noCounts) done (state [] []) (state [] [])
 
 pub forgotten : Kept (asked ∷ replicate 19 other) → ⊥
 forgotten k = let z = k .transmits [] asked (replicate 19 other) refl 0 asks 1 refl refl .oneResult refl (omega arith) in omega arith
+
+-- ---- modes that no adapter may have
+-- handles 0 and 1 in these modes, handle 1 without privilege
+abbrev inModes : ℕ → ℕ → State
+inModes mode0 mode1 = withHandles (state [] []) (inMode (openedHandle true) mode0 ∷ inMode (openedHandle false) mode1 ∷ replicate 6 closedHandle)
+
+-- two exclusive initiators, and two exclusive followers
+pub two-initiators : ModesHeld (inModes 0x02 0x12) → ⊥
+two-initiators k = let z = k .initiator in omega arith
+
+pub two-followers : ModesHeld (inModes 0x21 0x31) → ⊥
+two-followers k = let z = k .follower in omega arith
+
+-- a monitor without privilege, and a number that is no mode
+pub unprivileged : ModesHeld (inModes 0x01 0xE0) → ⊥
+unprivileged k = clash refl (k .permitted 1 refl)
+
+pub no-mode : ModesHeld (inModes 0x01 0x03) → ⊥
+no-mode k = clash refl (k .valid 1 refl)
