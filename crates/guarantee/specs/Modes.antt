@@ -17,9 +17,9 @@ pub record ModesHeld (s : State) : Type 0 where
   pub valid : (h : ℕ) → isOpen s h ≡ true → isModeInvalid s (handleAt s h .mode) ≡ false
   -- not "a monitor part without privilege: EPERM"
   pub permitted : (h : ℕ) → isOpen s h ≡ true → (isMonitor (handleAt s h .mode) && not (handleAt s h .privileged)) ≡ false
-  -- "low digit 2 while another handle has 2 ..: EBUSY": one open handle has it at most
+  -- "low digit 2 while another handle has 2 ..: EBUSY": at most one open handle has it
   pub initiator : count (inRole isExclusiveInitiator) (s .handles) ≤ 1
-  -- "0x20 or 0x30 while another has 0x20 or 0x30: EBUSY": so here
+  -- "0x20 or 0x30 while another has 0x20 or 0x30: EBUSY": at most one open handle has either
   pub follower : count (inRole isExclusiveFollower) (s .handles) ≤ 1
 
 -- in every state that calls lead to from a fresh adapter
