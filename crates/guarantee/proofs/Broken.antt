@@ -1,19 +1,23 @@
--- Histories that no adapter may have, each with one thing wrong: the claim is false of each.
+-- Histories that no adapter may have, each with one thing wrong: the claim is false of each. So with modes.
 -- Assumes nothing.
-use mathlib.Core.Bool.{true}
+use Prim.Native.Nat.{ℕ}
+use mathlib.Core.Bool.{true, false}
 use mathlib.Core.List.{List, [], _∷_}
 use mathlib.Core.Path.{refl, ap}
 use native.Mathlib.Omega.{arith}
 use lib.ListN.{length, replicate}
 use Rattle.entry.specs.Entry.{noCounts, result, reply, messageCopy}
 use Rattle.entry.specs.declared.Entry.{Entry}
-use Rattle.guarantee.proofs.Histories.{asks}
+use Rattle.guarantee.proofs.Histories.{asks, tells}
 use Rattle.guarantee.specs.Claim.{Kept}
+use Rattle.guarantee.specs.Modes.{ModesHeld}
+use Rattle.lists.specs.Tests.{clash}
 use Rattle.message.specs.Message.{message}
 use Rattle.message.specs.declared.Message.{Message}
 use Rattle.rules.specs.Call.{Call, Answer, done, opened, accepted, callOpen, callClose, callTransmit, callBusResult, callMessage, callTime}
+use Rattle.rules.specs.Mode.{inMode}
 use Rattle.rules.specs.Open.{openedHandle}
-use Rattle.rules.specs.State.{State, closedHandle, noSettings, noneNoted}
+use Rattle.rules.specs.State.{State, closedHandle, noSettings, noneNoted, withHandles}
 use Rattle.rules.specs.Step.{Step}
 
 -- a message, whatever it says
@@ -22,10 +26,10 @@ m = message 2 (replicate 16 0)
 
 -- handles 0 and 1 open, with these inboxes
 abbrev state : List Entry → List Entry → State
-state zero one = record {
+state inbox0 inbox1 = record {
   capabilities = record { transmit = true; monitorAll = true };
   handles = openedHandle true ∷ openedHandle true ∷ replicate 6 closedHandle;
-  inboxes = zero ∷ one ∷ replicate 6 [];
+  inboxes = inbox0 ∷ inbox1 ∷ replicate 6 [];
   queue = [];
   wire = [];
   waits = [];
@@ -49,15 +53,42 @@ answer = reply 1 m
 
 -- a result, delivered
 abbrev sent : List Entry → List Entry → Step
-sent zero one = call (callBusResult 0x01 noCounts) done (state [] []) (state zero one)
+sent inbox0 inbox1 = call (callBusResult 0x01 noCounts) done (state [] []) (state inbox0 inbox1)
 
 -- the result goes to handle 1
 pub wrong-handle : Kept (asked ∷ sent [] (ok ∷ []) ∷ []) → ⊥
 wrong-handle k = let z = k .transmits [] asked (sent [] (ok ∷ []) ∷ []) refl 0 asks 1 refl refl .ownHandle 1 (omega arith) .0 in omega arith
 
+-- the reply goes to handle 1, though handle 0 asked and had the result
+abbrev replied : List Entry → List Entry → Step
+replied inbox0 inbox1 = call (callMessage 3 (replicate 16 0)) done (state (ok ∷ []) []) (state inbox0 inbox1)
+
+pub wrong-reply : Kept (asked ∷ sent (ok ∷ []) [] ∷ replied (ok ∷ []) (answer ∷ []) ∷ []) → ⊥
+wrong-reply k =
+    let later = sent (ok ∷ []) [] ∷ replied (ok ∷ []) (answer ∷ []) ∷ [] in
+    let z = k .transmits [] asked later refl 0 asks 1 refl refl .ownHandle 1 (omega arith) .1 in
+    omega arith
+
 -- two results
 pub two-results : Kept (asked ∷ sent (ok ∷ ok ∷ []) [] ∷ []) → ⊥
 two-results k = let z = k .transmits [] asked (sent (ok ∷ ok ∷ []) [] ∷ []) refl 0 asks 1 refl refl .oneResultAtMost in omega arith
+
+-- two replies
+pub two-replies : Kept (asked ∷ sent (ok ∷ []) [] ∷ replied (ok ∷ answer ∷ answer ∷ []) [] ∷ []) → ⊥
+two-replies k =
+    let later = sent (ok ∷ []) [] ∷ replied (ok ∷ answer ∷ answer ∷ []) [] ∷ [] in
+    let z = k .transmits [] asked later refl 0 asks 1 refl refl .oneReplyAtMost in
+    omega arith
+
+-- a reply to a transmit that asked for none
+abbrev told : Step
+told = call (callTransmit 0 tells) (accepted 1 0) (state [] []) (state [] [])
+
+pub unasked : Kept (told ∷ sent (ok ∷ []) [] ∷ replied (ok ∷ answer ∷ []) [] ∷ []) → ⊥
+unasked k =
+    let ended = sent (ok ∷ []) [] in
+    let then = replied (ok ∷ answer ∷ []) [] in
+    clash (k .transmits [] told (ended ∷ then ∷ []) refl 0 tells 1 refl refl .replyAfterResult (ended ∷ []) then [] refl (omega arith) .0) refl
 
 -- a reply after a close
 abbrev shut : Step
@@ -99,3 +130,22 @@ other = call (callBusResult 0x01 noCounts) done (state [] []) (state [] [])
 
 pub forgotten : Kept (asked ∷ replicate 19 other) → ⊥
 forgotten k = let z = k .transmits [] asked (replicate 19 other) refl 0 asks 1 refl refl .oneResult refl (omega arith) in omega arith
+
+-- ---- modes that no adapter may have
+-- handles 0 and 1 in these modes, handle 1 without privilege
+abbrev inModes : ℕ → ℕ → State
+inModes mode0 mode1 = withHandles (state [] []) (inMode (openedHandle true) mode0 ∷ inMode (openedHandle false) mode1 ∷ replicate 6 closedHandle)
+
+-- two exclusive initiators, and two exclusive followers
+pub two-initiators : ModesHeld (inModes 0x02 0x12) → ⊥
+two-initiators k = let z = k .initiator in omega arith
+
+pub two-followers : ModesHeld (inModes 0x21 0x31) → ⊥
+two-followers k = let z = k .follower in omega arith
+
+-- a monitor without privilege, and a number that is no mode
+pub unprivileged : ModesHeld (inModes 0x01 0xE0) → ⊥
+unprivileged k = clash refl (k .permitted 1 refl)
+
+pub no-mode : ModesHeld (inModes 0x01 0x03) → ⊥
+no-mode k = clash refl (k .valid 1 refl)

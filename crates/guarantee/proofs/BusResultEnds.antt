@@ -151,8 +151,7 @@ module _ (s : State) (x : Transmission) (r : Inv s) (w : s .wire ≡ x ∷ []) w
       replies = λ v. shown-reply (timedOut-shows (v .number) (v .sent)) (omega arith);
       comes = λ h l. comes resultOf replyOf h l s copied copied (concluded s x status kept) (x ∷ []) [] r aside refl refl (owed-less h l);
       closes = λ h. refl;
-      opens = aside .opens;
-      handles = aside .handles ∙ r .handles;
+      modes = record { capabilities = aside .modes .capabilities; handles = aside .modes .handles };
       inboxes = length-set (copied .inboxes) (x .owner) _ ∙ aside .inboxes ∙ r .inboxes;
       queued = aside .fits (r .queued);
       wired = omega (arith, ap (λ (l : List Transmission). length (drop 1 l)) w);

@@ -17,6 +17,7 @@ use Rattle.guarantee.proofs.BusResultEnds.{busResult-ends}
 use Rattle.guarantee.proofs.Cases.{Cases, Quiet, calm, enqueued, stepFrom, same-came, closed-came, received-came}
 use Rattle.guarantee.proofs.Invariant.{Inv, open-below}
 use Rattle.guarantee.proofs.MessageEnds.{message-ends}
+use Rattle.guarantee.proofs.ModesKept.{mode-held}
 use Rattle.guarantee.proofs.TimeEnds.{time-ends}
 use Rattle.guarantee.proofs.UnconfigureEnds.{unconfigure-ends}
 use Rattle.guarantee.specs.Seen.{milliseconds, opensTo, doneBy, isClose, isReceive, isBusResult, givenBy, givesTo}
@@ -39,7 +40,7 @@ use Rattle.rules.specs.Handles.{handleAt, isOpen}
 use Rattle.rules.specs.Incoming.{doMessage}
 use Rattle.rules.specs.Listing.{doListing, filledRows}
 use Rattle.rules.specs.Lookup.{doLookup}
-use Rattle.rules.specs.Mode.{doMode, inMode}
+use Rattle.rules.specs.Mode.{doMode, inMode, modeRefusal}
 use Rattle.rules.specs.Number.{nextNumber}
 use Rattle.rules.specs.Open.{doOpen, lowestClosed, openDone}
 use Rattle.rules.specs.Receive.{doReceive}
@@ -67,6 +68,7 @@ module _ (s : State) (r : Inv s) (P : Call → Outcome → Type 0) (k : Cases s 
   refuses c e z = quietly c (refused e) (s .handles) (s .last) (s .settings) (s .noted) (record {
     handles = refl;
     still = λ h. refl;
+    modes = λ m. m;
     noOpen = λ h. refl;
     noClose = λ h. refl;
     noGift = λ h. refl;
@@ -89,11 +91,12 @@ module _ (s : State) (r : Inv s) (P : Call → Outcome → Type 0) (k : Cases s 
       let c : isOpen s i ≡ false = not-true (isOpen s i) (first-passes (λ (x : Handle). not (x .«is_open»)) (s .handles) closedHandle l) in
       k .whenOpened i p (omega (arith, r .handles)) c (λ h. same-came h (stepFrom s (callOpen p) (openDone s p)) refl refl)
 
-  -- a mode leaves every handle open or closed
-  mode-case : (g mode : ℕ) → P (callMode g mode) (finish done (withHandles s (set (s .handles) g (inMode (handleAt s g) mode))))
-  mode-case g mode = quietly (callMode g mode) done (set (s .handles) g (inMode (handleAt s g) mode)) (s .last) (s .settings) (s .noted) (record {
+  -- a mode that is taken leaves every handle open or closed
+  mode-case : (g mode : ℕ) → modeRefusal s g mode ≡ 0 → P (callMode g mode) (finish done (withHandles s (set (s .handles) g (inMode (handleAt s g) mode))))
+  mode-case g mode z = quietly (callMode g mode) done (set (s .handles) g (inMode (handleAt s g) mode)) (s .last) (s .settings) (s .noted) (record {
     handles = length-set (s .handles) g (inMode (handleAt s g) mode);
     still = λ h. set-rel (λ (x y : Handle). x .«is_open» ≡ y .«is_open») (λ x. refl) (s .handles) g h (inMode (handleAt s g) mode) closedHandle refl;
+    modes = mode-held s g mode z;
     noOpen = λ h. refl;
     noClose = λ h. refl;
     noGift = λ h. refl;
@@ -108,6 +111,7 @@ module _ (s : State) (r : Inv s) (P : Call → Outcome → Type 0) (k : Cases s 
   polled-case g x = quietly (callTransmit g x) (accepted (nextNumber s) CEC-TX-STATUS-NACK) (s .handles) (nextNumber s) (s .settings) (s .noted) (record {
     handles = refl;
     still = λ h. refl;
+    modes = λ m. m;
     noOpen = λ h. refl;
     noClose = λ h. refl;
     noGift = λ h. refl;
@@ -151,6 +155,7 @@ module _ (s : State) (r : Inv s) (P : Call → Outcome → Type 0) (k : Cases s 
   telling c a x o cl gi e t n i = quietly c a (s .handles) (s .last) x (s .noted) (record {
     handles = refl;
     still = λ h. refl;
+    modes = λ m. m;
     noOpen = o;
     noClose = cl;
     noGift = gi;
@@ -167,7 +172,7 @@ module _ (s : State) (r : Inv s) (P : Call → Outcome → Type 0) (k : Cases s 
   by-cases (callClose g) = checked (callClose g) _ _ refl (λ z.
       let o = not-false (isOpen s g) (passed (not (isOpen s g)) EBADF 0 (omega arith) z .0) in
       k .whenClosed g (open-below s g r o) o (closed-came s g))
-  by-cases (callMode g mode) = checked (callMode g mode) _ _ refl (λ z. mode-case g mode)
+  by-cases (callMode g mode) = checked (callMode g mode) _ _ refl (λ z. mode-case g mode z)
   by-cases (callTransmit g x) = checked (callTransmit g x) _ _ refl (λ z.
       let a = all-passed s g x z in
       split (isSelfPoll s x) (λ q. rw q (polled-case g x)) (λ q. rw q (queued-case g x (a .opens) (a .fits q))))

@@ -11,6 +11,7 @@ use lib.Seq.{getD-set-same, getD-set-other, drop-length}
 use borrow.Author.Tests.{eqb-true, eqb-false}
 use Rattle.entry.specs.declared.Entry.{Entry}
 use Rattle.guarantee.proofs.Ends.{Ends}
+use Rattle.guarantee.specs.Modes.{ModesHeld}
 use Rattle.guarantee.specs.Seen.{came, gave, opens, closes, opensTo, givesTo, givenBy, doneBy, isClose, isReceive, isBusResult, milliseconds}
 use Rattle.handle.specs.declared.Handle.{Handle}
 use Rattle.inbox.specs.Inboxes.{inboxOf}
@@ -39,10 +40,11 @@ Silent s c o = (h : ℕ) → came h (stepFrom s c o) ≡ []
 abbrev pub calm : State → List Handle → ℕ → Settings → List ℕ → State
 calm s hs last x noted = record { capabilities = s .capabilities; handles = hs; inboxes = s .inboxes; queue = s .queue; wire = s .wire; waits = s .waits; last = last; settings = x; noted = noted }
 
--- a call that leads there: it opens, closes, gives and ends nothing, and a number that it gives is the next one, for nothing queued
+-- a call that leads there: it opens, closes, gives and ends nothing, a mode that it sets may be had, and a number that it gives is the next one, for nothing queued
 pub record Quiet (s : State) (c : Call) (a : Answer) (hs : List Handle) : Type 0 where
   pub handles : length hs ≡ length (s .handles)
   pub still : (h : ℕ) → getD hs h closedHandle .«is_open» ≡ isOpen s h
+  pub modes : ModesHeld s → ModesHeld (withHandles s hs)
   pub noOpen : (h : ℕ) → opensTo h a ≡ false
   pub noClose : (h : ℕ) → doneBy (isClose h c) a ≡ false
   pub noGift : (h : ℕ) → givenBy (isReceive h c) a ≡ []

@@ -12,7 +12,7 @@ use Rattle.guarantee.proofs.Parts.{parted, last-after}
 use Rattle.guarantee.proofs.Reached.{fresh-closed, fresh-inv, reached}
 use Rattle.guarantee.proofs.Since.{no-open, since-open}
 use Rattle.guarantee.specs.Claim.{Fate, Claim}
-use Rattle.guarantee.specs.Seen.{opens, came, gave, sinceOpen, all}
+use Rattle.guarantee.specs.Seen.{opens, came, gave, sinceOpen, joined}
 use Rattle.inbox.specs.Inboxes.{inboxOf}
 use Rattle.lists.specs.Sums.{any}
 use Rattle.lists.specs.Tests.{split, clash}
@@ -34,7 +34,7 @@ transmits-kept c calls past x later e h r n k a =
 
 -- what came to an open handle
 inboxes-kept : (c : Capabilities) (calls : List Call) (past : List Step) (x : Step) → run (fresh c) calls ≡ past ++ x ∷ [] → (h : ℕ) → isOpen (x .after) h ≡ true
-    → all (came h) (sinceOpen h (run (fresh c) calls)) ≡ all (gave h) (sinceOpen h (run (fresh c) calls)) ++ inboxOf (x .after .inboxes) h
+    → joined (came h) (sinceOpen h (run (fresh c) calls)) ≡ joined (gave h) (sinceOpen h (run (fresh c) calls)) ++ inboxOf (x .after .inboxes) h
 inboxes-kept c calls past x e h o =
     let i = fresh-inv c in
     let a = last-after (fresh c) calls past x e in
@@ -46,4 +46,4 @@ inboxes-kept c calls past x e h o =
 
 -- the whole claim
 pub claim : Claim
-claim c calls = record { transmits = transmits-kept c calls; inboxes = inboxes-kept c calls }
+claim c calls = record { transmits = transmits-kept c calls; inboxes = λ past x e h o. cc (inboxes-kept c calls past x e h o) }

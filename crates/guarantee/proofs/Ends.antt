@@ -20,9 +20,10 @@ use Rattle.lists.specs.Sums.{sum}
 use Rattle.lists.specs.Tests.{bit}
 use Rattle.rules.proofs.Aside.{Owned, Aside, aside-pending, aside-sum, core-weightless}
 use Rattle.rules.proofs.Entries.{Shows, result-shows, timedOut-shows}
+use Rattle.rules.proofs.SameModes.{SameModes}
 use Rattle.rules.specs.BusResult.{waitFor}
 use Rattle.rules.specs.Call.{Call}
-use Rattle.rules.specs.Handles.{isOpen, hasBit}
+use Rattle.rules.specs.Handles.{hasBit}
 use Rattle.rules.specs.Owed.{pending}
 use Rattle.rules.specs.State.{State}
 use Rattle.transmission.specs.Transmission.{ownerless}
@@ -61,10 +62,9 @@ pub record Ends (s : State) (c : Call) (t : State) : Type 0 where
   pub results : (x : Transmission) → Shows (x .number) status 0 (resultOf x)
   pub replies : (w : Wait) → Replies (w .number) (replyOf w)
   pub comes : (h : ℕ) → h < 8 → Comes h s t (entriesTo resultOf replyOf h sent over)
-  -- no handle is opened or closed, and nothing is past its bounds
+  -- no handle is opened or closed, no mode is set, and nothing is past its bounds
   pub closes : (h : ℕ) → isClose h c ≡ false
-  pub opens : (h : ℕ) → isOpen t h ≡ isOpen s h
-  pub handles : length (t .handles) ≡ 8
+  pub modes : SameModes s t
   pub inboxes : length (t .inboxes) ≡ 8
   pub queued : length (t .queue) ≤ 18
   pub wired : length (t .wire) ≤ 1
@@ -92,8 +92,7 @@ aside-ends s t c r a close bus time = record {
   replies = λ w. shown-reply (timedOut-shows (w .number) (w .sent)) (omega arith);
   comes = λ h l. comes-aside h l s t r a;
   closes = close;
-  opens = a .opens;
-  handles = a .handles ∙ r .handles;
+  modes = a .modes;
   inboxes = a .inboxes ∙ r .inboxes;
   queued = a .fits (r .queued);
   wired = rw (a .wire) (r .wired);

@@ -19,7 +19,7 @@ use Rattle.guarantee.proofs.Keeps.{keeps}
 use Rattle.guarantee.proofs.Parts.{parted, own-parted, own-after}
 use Rattle.guarantee.proofs.Reached.{kept}
 use Rattle.guarantee.proofs.Totals.{nobody, own-results, all-results, placed-most, own-replies, all-replies, closed-results, closed-replies, kept-results, kept-alike, kept-waits, kept-oks}
-use Rattle.guarantee.specs.Claim.{Fate}
+use Rattle.guarantee.specs.Claim.{nineteen, Fate}
 use Rattle.guarantee.specs.Seen.{came, closes, gives, givesTo, doneBy, isClose, milliseconds, isResult, isReplyEntry, isOkResult, cameTo, cameToAny, results, okResults, replies, busResults, closings, elapsed, own}
 use Rattle.lists.specs.Spread.{upto-one}
 use Rattle.lists.specs.Sums.{sum-append, sum-le, count}
@@ -67,7 +67,7 @@ module _ (h : ℕ) (x : Request) (n : ℕ) (s : State) (r : Inv s) (b : Began h 
   result-once : results n (own n (run s cs)) ≤ 1
   result-once = omega (arith, results-here, own-results h n (b .home) (b .some) s cs r, b .one)
 
-  result-comes : closings h (run s cs) ≡ 0 → 19 ≤ busResults (run s cs) → results n (own n (run s cs)) ≡ 1
+  result-comes : closings h (run s cs) ≡ 0 → nineteen ≤ busResults (run s cs) → results n (own n (run s cs)) ≡ 1
   result-comes z k =
       let p = placed-most h n (b .home) (b .some) s r in
       omega (arith, results-here, b .one, all-results h n (b .home) (b .some) s cs r z (omega arith))
@@ -186,24 +186,27 @@ module _ (h : ℕ) (x : Request) (n : ℕ) (s : State) (r : Inv s) (b : Began h 
   -- ---- all of it
   pub fate : Fate h x n (run s cs)
   fate = record {
-    oneResultAtMost = result-once;
-    oneResult = result-comes;
-    oneReplyAtMost = reply-once;
+    oneResultAtMost = omega (arith, result-once);
+    oneResult = λ z k. omega (arith, result-comes z k);
+    oneReplyAtMost = omega (arith, reply-once);
     replyAfterResult = λ past y rest e k.
         let p = own-parted n s cs past y rest e in
-        (reply-asked past y rest e k, omega (arith, ap (okResults n) (p .ran), reply-after (p .before) (p .call) (p .ungiven) (rw (p .here) at k)));
+        (cc (reply-asked past y rest e k), omega (arith, ap (okResults n) (p .ran), reply-after (p .before) (p .call) (p .ungiven) (rw (p .here) at k)));
     oneReply = λ past y rest e g o w k t.
         let p = parted s cs past y rest e in
-        let all : past ++ y ∷ rest ≡ run s (p .before) ++ stepOf (after s (p .before)) (p .call) ∷ run (step (after s (p .before)) (p .call) .state) (p .later) = ap₂ _++_ (p .ran) (ap₂ _∷_ (p .here) (p .runs)) in
-        replies-here
-        ∙ ap (λ (ys : List Step). cameTo (isReplyEntry n) h (own n ys)) (e ∙ all)
-        ∙ reply-comes (p .before) (p .call) (p .later) (rw (p .ran) at g) (rw (p .here) at o) w (sym (ap (closings h) (e ∙ all)) ∙ k) (rw (p .runs) at t);
-    ownHandle = nothing-else;
+        let whole : past ++ y ∷ rest ≡ run s (p .before) ++ stepOf (after s (p .before)) (p .call) ∷ run (step (after s (p .before)) (p .call) .state) (p .later) = ap₂ _++_ (p .ran) (ap₂ _∷_ (p .here) (p .runs)) in
+        omega (
+          arith,
+          replies-here,
+          ap (λ (ys : List Step). cameTo (isReplyEntry n) h (own n ys)) (e ∙ whole),
+          reply-comes (p .before) (p .call) (p .later) (rw (p .ran) at g) (rw (p .here) at o) w (sym (ap (closings h) (e ∙ whole)) ∙ k) (rw (p .runs) at t),
+        );
+    ownHandle = λ g e. (omega (arith, nothing-else g e .0), omega (arith, nothing-else g e .1));
     neverAfterClose = λ past y rest e k.
         let p = own-parted n s cs past y rest e in
         let c = rw (p .here) at k in
         let u = own n (run (after s (p .before)) (p .call ∷ p .later)) in
         let a = no-result (p .before) (p .call) (p .later) (p .ungiven) c in
         let b = no-reply (p .before) (p .call) (p .later) (p .ungiven) c in
-        (ap (results n) (p .runs) ∙ no-handle (isResult n) u a, ap (replies n) (p .runs) ∙ no-handle (isReplyEntry n) u b);
+        (omega (arith, ap (results n) (p .runs), no-handle (isResult n) u a), omega (arith, ap (replies n) (p .runs), no-handle (isReplyEntry n) u b));
   }

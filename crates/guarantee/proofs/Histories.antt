@@ -1,17 +1,20 @@
 -- Histories of the rules, on which the parts of the claim compute as they should.
 -- Assumes nothing.
-use Prim.Native.Nat.{ℕ}
+use Prim.Native.Nat.{ℕ, zero, suc, _+_}
 use mathlib.Core.Bool.{true}
-use mathlib.Core.List.{List, [], _∷_, _++_}
+use mathlib.Core.List.{List, [], _∷_, _++_, map}
 use mathlib.Core.Path.{_≡_, refl}
 use lib.ListN.{drop, replicate, length}
 use Rattle.entry.specs.Entry.{noCounts}
-use Rattle.guarantee.specs.Seen.{came, gave, results, okResults, replies, busResults, closings, elapsed, own, sinceOpen, all}
+use Rattle.guarantee.specs.Claim.{nineteen}
+use Rattle.guarantee.specs.Room.{handleWaits, allWaits}
+use Rattle.guarantee.specs.Seen.{came, gave, results, okResults, replies, busResults, closings, elapsed, own, sinceOpen, joined}
+use Rattle.lists.specs.Sums.{count}
 use Rattle.message.specs.Message.{message}
 use Rattle.message.specs.Reply.{isReply}
 use Rattle.rules.specs.BusResult.{doBusResult, isFinal, keptCounts}
 use Rattle.rules.specs.BusStart.{doBusStart}
-use Rattle.rules.specs.Call.{Call, Request, unless, check, callOpen, callClose, callTransmit, callReceive, callBusStart, callBusResult, callMessage, callTime, callConfigure, callUnconfigure}
+use Rattle.rules.specs.Call.{Call, Request, unless, check, accepted, callOpen, callClose, callTransmit, callReceive, callBusStart, callBusResult, callMessage, callTime, callConfigure, callUnconfigure}
 use Rattle.rules.specs.Close.{doClose}
 use Rattle.rules.specs.Configure.{doConfigure}
 use Rattle.rules.specs.Core.{sends, answers, notes}
@@ -21,30 +24,37 @@ use Rattle.rules.specs.Number.{numberAfter}
 use Rattle.rules.specs.Open.{doOpen}
 use Rattle.rules.specs.Owed.{roomOwed, repliesWanted, isTaken}
 use Rattle.rules.specs.Receive.{doReceive}
-use Rattle.rules.specs.State.{fresh}
-use Rattle.rules.specs.Step.{Step, run}
+use Rattle.rules.specs.State.{State, fresh}
+use Rattle.rules.specs.Step.{Step, after, step, run}
 use Rattle.rules.specs.Time.{doTime}
 use Rattle.rules.specs.Transmit.{doTransmit}
 use Rattle.rules.specs.Unconfigure.{doUnconfigure}
+use Rattle.wait.specs.Wait.{ownedBy}
 use Rattle.waits.specs.Waits.{matchTaken}
 
--- a power status asked for
+-- a power status asked for, and the same message with no reply wanted
 abbrev pub asks : Request
 asks = record { length = 2; bytes = 0x40 ∷ 0x8F ∷ replicate 14 0; reply = 0x90; timeout = 0; flags = 0 }
+
+abbrev pub tells : Request
+tells = record { length = 2; bytes = 0x40 ∷ 0x8F ∷ replicate 14 0; reply = 0; timeout = 0; flags = 0 }
 
 abbrev status : Call
 status = callMessage 3 (0x04 ∷ 0x90 ∷ replicate 14 0)
 
+-- some handles opened, and the adapter configured; then some more calls
+abbrev begin : ℕ → List Call → List Call
+begin handles more =
+    replicate handles (callOpen true)
+    ++ (callConfigure (record { «physical_address» = 0x1000; mask = 0x0010; version = 5; «device_type» = 4; «vendor_id» = 0; «name_length» = 1; name = 0x42 ∷ replicate 13 0 })
+    ∷ more)
+
+abbrev start : State
+start = fresh (record { transmit = true; monitorAll = true })
+
 -- handles 0 and 1 ask, under the numbers 1 and 2; then some more calls
 abbrev history : List Call → List Step
-history more =
-    run (fresh (record { transmit = true; monitorAll = true }))
-    (callOpen true
-    ∷ callOpen true
-    ∷ callConfigure (record { «physical_address» = 0x1000; mask = 0x0010; version = 5; «device_type» = 4; «vendor_id» = 0; «name_length» = 1; name = 0x42 ∷ replicate 13 0 })
-    ∷ callTransmit 0 asks
-    ∷ callTransmit 1 asks
-    ∷ more)
+history more = run start (begin 2 (callTransmit 0 asks ∷ callTransmit 1 asks ∷ more))
 
 -- of number n: results, those with the OK bit and replies; of the whole: accepted bus results, closes of handle 0, milliseconds
 abbrev seen : ℕ → List Step → List ℕ
@@ -52,7 +62,7 @@ seen n later = results n (own n later) ∷ okResults n (own n later) ∷ replies
 
 -- what came to handle h since its open, what its receives gave, and what is left
 abbrev entries : ℕ → List Step → List ℕ
-entries h xs = length (all (came h) (sinceOpen h xs)) ∷ length (all (gave h) (sinceOpen h xs)) ∷ []
+entries h xs = length (joined (came h) (sinceOpen h xs)) ∷ length (joined (gave h) (sinceOpen h xs)) ∷ []
 
 abbrev sending : List Call
 sending = callBusStart ∷ callBusResult 0x01 noCounts ∷ callBusStart ∷ callBusResult 0x01 noCounts ∷ []
@@ -80,3 +90,41 @@ ended = history (callBusStart ∷ callBusResult 0x01 noCounts ∷ callBusStart �
 all-ended : (seen 1 (drop 4 ended) ≡ 1 ∷ 1 ∷ 1 ∷ 1 ∷ 0 ∷ 0 ∷ []) × (seen 2 (drop 5 ended) ≡ 1 ∷ 0 ∷ 0 ∷ 1 ∷ 0 ∷ 0 ∷ [])
 unfolding message isReply matchTaken fresh roomOwed repliesWanted isTaken copyTo copies unless check doOpen doClose numberAfter doTransmit doReceive doBusStart doBusResult isFinal keptCounts doTime doConfigure doUnconfigure sends answers notes doMessage heard
 all-ended = (refl, refl)
+
+-- ---- the numbers of the claim and of the room are reached
+-- calls k times, and then others
+abbrev again : ℕ → List Call → List Call → List Call
+again zero cs more = more
+again (suc k) cs more = cs ++ again k cs more
+
+-- a message is on the wire and 17 are queued
+abbrev busy : State
+busy = after start (begin 2 (callTransmit 0 tells ∷ callBusStart ∷ replicate 9 (callTransmit 0 tells) ++ replicate 8 (callTransmit 1 tells)))
+
+-- handle 1 sends one more, under number 19; what was before it is sent, and it is on the wire; then some more calls
+abbrev behind : List Call → List Step
+behind more = run (step busy (callTransmit 1 tells) .state) (again 18 (callBusResult 0x01 noCounts ∷ callBusStart ∷ []) more)
+
+-- it has not had its result after one bus result less than nineteen, and has it with the nineteenth
+last-of-nineteen : (length (busy .wire) ≡ 1) × (length (busy .queue) ≡ 17) × (step busy (callTransmit 1 tells) .answer ≡ accepted 19 0)
+    × (busResults (behind []) + 1 ≡ nineteen) × (results 19 (own 19 (behind [])) ≡ 0)
+    × (busResults (behind (callBusResult 0x01 noCounts ∷ [])) ≡ nineteen) × (results 19 (own 19 (behind (callBusResult 0x01 noCounts ∷ []))) ≡ 1)
+unfolding message fresh roomOwed repliesWanted isTaken copies unless check doOpen numberAfter doTransmit doBusStart doBusResult isFinal keptCounts doConfigure
+last-of-nineteen = (refl, refl, refl, refl, refl, refl, refl)
+
+-- a handle asks, and its message is sent; each of several handles, four times
+abbrev asking : ℕ → List Call
+asking h = callTransmit h asks ∷ callBusStart ∷ callBusResult 0x01 noCounts ∷ []
+
+abbrev allAsking : List ℕ → List Call → List Call
+allAsking [] more = more
+allAsking (h ∷ hs) more = again 4 (asking h) (allAsking hs more)
+
+-- 31 waits, and on the wire a message that wants a reply
+abbrev full : State
+full = after start (begin 8 (allAsking (0 ∷ 1 ∷ 2 ∷ 3 ∷ 4 ∷ 5 ∷ 6 ∷ []) (again 3 (asking 7) (callTransmit 7 asks ∷ callBusStart ∷ []))))
+
+-- a handle has as many waits as it may, and the next wait takes the last place
+most-waits : (count (ownedBy 0) (full .waits) ≡ handleWaits) × (length (full .waits) + 1 ≡ allWaits) × (map (λ t. t .«wants_reply») (full .wire) ≡ true ∷ [])
+unfolding message fresh roomOwed repliesWanted isTaken copies unless check doOpen numberAfter doTransmit doBusStart doBusResult isFinal keptCounts doConfigure
+most-waits = (refl, refl, refl)

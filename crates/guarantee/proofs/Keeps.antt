@@ -22,6 +22,7 @@ use Rattle.lists.specs.Elements.{set-rel}
 use Rattle.lists.specs.Sums.{sum, sum-le}
 use Rattle.lists.specs.Tests.{bit, split, both, clash}
 use Rattle.rules.proofs.Numbers.{carriedBy}
+use Rattle.rules.proofs.SameModes.{same-many, same-open}
 use Rattle.rules.specs.Call.{Call, Answer}
 use Rattle.rules.specs.Handles.{isOpen, hasBit}
 use Rattle.rules.specs.Open.{openedHandle}
@@ -105,7 +106,7 @@ begins-asked h status x =
 ended-kept : (s t : State) (c : Call) → Inv s → Ends s c t → Inv t
 unfolding repliesWanted carriedBy
 ended-kept s t c r e = record {
-  handles = e .handles;
+  handles = same-many s t (e .modes) ∙ r .handles;
   inboxes = e .inboxes;
   queued = e .queued;
   wired = e .wired;
@@ -127,7 +128,7 @@ ended-kept s t c r e = record {
     sum-le (begins (λ w. bit (ownedBy h w)) (e .status)) (replyFor h) (e .sent) (begins-asked h (e .status)),
   );
   room = λ h l. e .comes h l .room;
-  none = λ h l z. e .comes h l .none (sym (e .opens h) ∙ z);
+  none = λ h l z. e .comes h l .none (sym (same-open s t (e .modes) h) ∙ z);
 }
 
 -- every call

@@ -8,6 +8,8 @@ pub mod TimeEnds
 pub mod UnconfigureEnds
 pub mod BusResultEnds
 pub mod MessageEnds
+pub mod AtMostOne
+pub mod ModesKept
 pub mod Cases
 pub mod ByCases
 pub mod ClosedKept
@@ -25,3 +27,4 @@ pub mod Fate
 pub mod Since
 pub mod Claim
 pub mod Room
+pub mod Modes

@@ -23,6 +23,7 @@ use Rattle.message.specs.Message.{opcode}
 use Rattle.message.specs.declared.Message.{Message}
 use Rattle.rules.proofs.Aside.{Aside, aside-trans, aside-pending, aside-sum, core-weightless, room-owned, copies-aside, notes-aside, answers-aside, followed-aside, refusedMessage-aside}
 use Rattle.rules.proofs.Entries.{result-shows, replyEntry-shows, messageCopy-shows}
+use Rattle.rules.proofs.SameModes.{modes-trans, same-open}
 use Rattle.rules.specs.Call.{Call, callMessage}
 use Rattle.rules.specs.Core.{answers, notes}
 use Rattle.rules.specs.Deliver.{deliver, copies}
@@ -48,10 +49,9 @@ ends-then s t u c e a = record {
   replyOf = e .replyOf;
   results = e .results;
   replies = e .replies;
-  comes = λ h l. comes-then h l s t u _ (e .comes h l) (e .opens h) a;
+  comes = λ h l. comes-then h l s t u _ (e .comes h l) (same-open s t (e .modes) h) a;
   closes = e .closes;
-  opens = λ h. a .opens h ∙ e .opens h;
-  handles = a .handles ∙ e .handles;
+  modes = modes-trans s t u (e .modes) (a .modes);
   inboxes = a .inboxes ∙ e .inboxes;
   queued = a .fits (e .queued);
   wired = rw (a .wire) (e .wired);
@@ -106,8 +106,7 @@ module _ (s : State) (r : Inv s) (m : Message) (k : ℕ) (bytes : List ℕ) wher
       replies = λ w. reply-shown (w .number) m;
       comes = λ h q. comes resultOf replyOf h q s c (withWaits c rest) after [] (wait ∷ []) r a refl refl (owed-less h q);
       closes = λ h. refl;
-      opens = a .opens;
-      handles = a .handles ∙ r .handles;
+      modes = record { capabilities = a .modes .capabilities; handles = a .modes .handles };
       inboxes = length-set (c .inboxes) (wait .owner) _ ∙ a .inboxes ∙ r .inboxes;
       queued = a .fits (r .queued);
       wired = rw (a .wire) (r .wired);

@@ -1,12 +1,13 @@
--- Results and replies always have their room, in every state that calls lead to from a fresh adapter.
+-- Results, replies and waits always have their room, in every state that calls lead to from a fresh adapter.
 -- Assumes nothing.
 use Prim.Native.Nat.{ℕ, _+_, _≤_, _<_}
+use mathlib.Core.Bool.{false}
 use mathlib.Core.List.{List, [], _∷_, _++_}
 use mathlib.Core.Path.{_≡_, refl, ap}
 use native.Mathlib.Omega.{arith}
 use lib.Dec.{eqb, ltb}
 use lib.ListN.{length}
-use borrow.Author.Tests.{ltb-true}
+use borrow.Author.Tests.{eqb-true, ltb-true}
 use Rattle.constants.specs.Kernel.{CEC-TX-STATUS-ABORTED}
 use Rattle.entry.specs.Entry.{noCounts, result, resultCopy, timedOut, aborted, messageCopy}
 use Rattle.entry.specs.declared.Entry.{Entry}
@@ -15,7 +16,7 @@ use Rattle.guarantee.proofs.Invariant.{Inv, improperWait}
 use Rattle.guarantee.proofs.Reached.{reached}
 use Rattle.guarantee.proofs.TimeEnds.{sum-time}
 use Rattle.guarantee.proofs.UnconfigureEnds.{owed-each}
-use Rattle.guarantee.specs.Room.{HasRoom, Room, AlwaysRoom}
+use Rattle.guarantee.specs.Room.{HasRoom, handleWaits, Room, AlwaysRoom}
 use Rattle.inbox.specs.Inboxes.{inboxOf}
 use Rattle.lists.specs.Sums.{sum-one-of, sum-le, count}
 use Rattle.lists.specs.Tests.{bit, split, eqb-refl}
@@ -25,7 +26,7 @@ use Rattle.rules.proofs.Mail.{post, posts-boxes, posts-length}
 use Rattle.rules.specs.Deliver.{each}
 use Rattle.rules.specs.Handles.{isMonitor}
 use Rattle.rules.specs.Incoming.{monitors}
-use Rattle.rules.specs.Owed.{pending, roomOwed, owedRoom}
+use Rattle.rules.specs.Owed.{pending, roomOwed, owedRoom, repliesWanted}
 use Rattle.rules.specs.State.{State, fresh, withWaits}
 use Rattle.rules.specs.Step.{after}
 use Rattle.rules.specs.Time.{overdue, remaining, timeOut}
@@ -97,18 +98,30 @@ module _ (s : State) (r : Inv s) where
       each-room (λ (v : Wait). v .owner) (λ v. aborted (v .number) (v .sent)) (each abortTransmit (unset s) (pending s)) (s .waits) past w rest e (omega (arith, posts-boxes to entry (unset s) (pending s), r .inboxes))
       (omega arith)
 
+  -- a handle's waits are among the replies that it wants; a number over 7 has none
+  few-waits : (h : ℕ) → count (ownedBy h) (s .waits) ≤ handleWaits
+  unfolding repliesWanted
+  few-waits h =
+      split (ltb h 8)
+      (λ e. omega (arith, r .asks h (ltb-true h 8 e)))
+      (λ e. omega (arith, r .waiting, sum-le (λ (w : Wait). bit (ownedBy h w)) improperWait (s .waits) (nobody e)))
+    where
+      nobody : ltb h 8 ≡ false → (w : Wait) → bit (ownedBy h w) ≤ improperWait w
+      nobody e w = split (eqb (w .owner) h) (λ o. rw (o, eqb-true (w .owner) h o, e) (omega arith)) (λ o. rw o (omega arith))
+
   -- wherever the invariant holds
   room : Room s
   room = record {
     owed = r .room;
     result = λ t e l status counts. copied-room _ (copies-aside isMonitor (resultCopy status counts (t .message)) (resultCopy-shows status counts (t .message) .sequence) s) (t .owner) l (owed-transmit [] t (s .queue) (ap (λ (ts : List Transmission). ts ++ s .queue) e));
-    wait = λ t e w. wait-fits s t r e w;
+    wait = λ t e w. omega (arith, wait-fits s t r e w);
     reply = λ past w rest e m. copied-room _ (copies-aside (monitors s m) (messageCopy m) (messageCopy-shows m .sequence) s) (w .owner) (home past w rest e) (owed-wait past w rest e);
     timeout = timeout-room;
     abortedTransmit = transmit-room;
     abortedWait = wait-room;
     queue = r .queued;
     wire = r .wired;
+    waits = few-waits;
   }
 
 -- so in every state that calls lead to

@@ -17,12 +17,13 @@ use Rattle.guarantee.proofs.Cases.{Cases, Silent, stepFrom}
 use Rattle.guarantee.proofs.Ends.{Ends}
 use Rattle.guarantee.proofs.Invariant.{Inv}
 use Rattle.guarantee.proofs.Keeps.{keeps}
-use Rattle.guarantee.specs.Seen.{came, gave, opens, opensTo, doneBy, isClose, sinceOpen, all}
+use Rattle.guarantee.specs.Seen.{came, gave, opens, opensTo, doneBy, isClose, sinceOpen, joined}
 use Rattle.handle.specs.declared.Handle.{Handle}
 use Rattle.inbox.specs.Inboxes.{inboxOf}
 use Rattle.lists.specs.Elements.{empty-list}
 use Rattle.lists.specs.Sums.{any}
 use Rattle.lists.specs.Tests.{split, clash, neither}
+use Rattle.rules.proofs.SameModes.{same-open}
 use Rattle.rules.specs.Call.{Call, Outcome, finish, done, opened, received, callOpen, callClose, callReceive}
 use Rattle.rules.specs.Close.{closed}
 use Rattle.rules.specs.Handles.{isOpen}
@@ -86,7 +87,7 @@ module _ (h : ℕ) (l : h < 8) (s : State) (r : Inv s) where
   ended-order : (c : Call) (t : State) → Ends s c t → InOrder h s c (finish done t)
   ended-order c t e = record {
     order = λ _. ap (λ (m : List Entry). inboxOf (s .inboxes) h ++ m) (ended-came s c t e h l) ∙ sym (e .comes h l .mail .grown);
-    was = λ _ a. (sym (e .opens h) ∙ a, e .closes h);
+    was = λ _ a. (sym (same-open s t (e .modes) h) ∙ a, e .closes h);
     new = λ n. clash n refl;
   }
 
@@ -112,7 +113,7 @@ chain a b c g i k z p q = sym (append-assoc a b c) ∙ rw (p, append-assoc g i c
 module _ (h : ℕ) (l : h < 8) where
   -- a handle that is open at the end and was not opened was open all the while
   pub no-open : (s : State) (cs : List Call) → Inv s → any (opens h) (run s cs) ≡ false → isOpen (after s cs) h ≡ true
-      → (isOpen s h ≡ true) × (inboxOf (s .inboxes) h ++ all (came h) (run s cs) ≡ all (gave h) (run s cs) ++ inboxOf (after s cs .inboxes) h)
+      → (isOpen s h ≡ true) × (inboxOf (s .inboxes) h ++ joined (came h) (run s cs) ≡ joined (gave h) (run s cs) ++ inboxOf (after s cs .inboxes) h)
   no-open s [] r n o = (o, append-nil (inboxOf (s .inboxes) h))
   no-open s (c ∷ cs) r n o =
       let t = step s c .state in
@@ -120,11 +121,11 @@ module _ (h : ℕ) (l : h < 8) where
       let ih = no-open t cs (keeps s c r) (m .1) o in
       let f = in-order h l s r c in
       let w = f .was (m .0) (ih .0) in
-      (w .0, chain (inboxOf (s .inboxes) h) (came h (stepOf s c)) (all (came h) (run t cs)) (gave h (stepOf s c)) (inboxOf (t .inboxes) h) (all (gave h) (run t cs)) (inboxOf (after t cs .inboxes) h) (f .order (w .1)) (ih .1))
+      (w .0, chain (inboxOf (s .inboxes) h) (came h (stepOf s c)) (joined (came h) (run t cs)) (gave h (stepOf s c)) (inboxOf (t .inboxes) h) (joined (gave h) (run t cs)) (inboxOf (after t cs .inboxes) h) (f .order (w .1)) (ih .1))
 
   -- from its last open on
   pub since-open : (s : State) (cs : List Call) → Inv s → any (opens h) (run s cs) ≡ true → isOpen (after s cs) h ≡ true
-      → all (came h) (sinceOpen h (run s cs)) ≡ all (gave h) (sinceOpen h (run s cs)) ++ inboxOf (after s cs .inboxes) h
+      → joined (came h) (sinceOpen h (run s cs)) ≡ joined (gave h) (sinceOpen h (run s cs)) ++ inboxOf (after s cs .inboxes) h
   since-open s [] r n o = clash n refl
   since-open s (c ∷ cs) r n o =
       let t = step s c .state in

@@ -86,8 +86,7 @@ module _ (ms : ℕ) where
         replies = λ w. shown-reply (timedOut-shows (w .number) (w .sent)) (omega arith);
         comes = λ h l. comes (λ x. result (x .number) 1 noCounts (x .message)) (λ w. timedOut (w .number) (w .sent)) h l s s timed (withInboxes timed is) [] (overdue ms (s .waits)) r (aside-refl s) refl e (owed-time s h);
         closes = λ h. refl;
-        opens = λ h. refl;
-        handles = r .handles;
+        modes = record { capabilities = refl; handles = refl };
         inboxes = ap length e ∙ posts-boxes (λ (w : Wait). w .owner) (λ w. timedOut (w .number) (w .sent)) timed (overdue ms (s .waits)) ∙ r .inboxes;
         queued = r .queued;
         wired = r .wired;

@@ -72,8 +72,7 @@ module _ (s : State) where
     replies = λ w. shown-reply (aborted-shows (w .number) (w .sent)) (omega arith);
     comes = λ h l. comes resultOf replyOf h l s s (unset s) (withInboxes (unset s) is) (pending s) (s .waits) r (aside-refl s) refl e (owed-all s h);
     closes = λ h. refl;
-    opens = λ h. refl;
-    handles = r .handles;
+    modes = record { capabilities = refl; handles = refl };
     inboxes = ap length e ∙ boxes ∙ r .inboxes;
     queued = omega arith;
     wired = omega arith;

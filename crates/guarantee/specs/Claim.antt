@@ -5,7 +5,7 @@ use mathlib.Core.Bool.{true}
 use mathlib.Core.List.{List, [], _∷_, _++_}
 use mathlib.Core.Logic.{_≢_}
 use mathlib.Core.Path.{_≡_}
-use Rattle.guarantee.specs.Seen.{came, gave, gives, closes, isResult, isReplyEntry, cameTo, results, okResults, replies, busResults, closings, elapsed, own, sinceOpen, all}
+use Rattle.guarantee.specs.Seen.{came, gave, gives, closes, isResult, isReplyEntry, cameTo, results, okResults, replies, busResults, closings, elapsed, own, sinceOpen, joined}
 use Rattle.inbox.specs.Inboxes.{inboxOf}
 use Rattle.lists.specs.Sums.{count}
 use Rattle.rules.specs.Call.{Call, Request, accepted, callTransmit}
@@ -14,12 +14,16 @@ use Rattle.rules.specs.State.{Capabilities, fresh}
 use Rattle.rules.specs.Step.{Step, run}
 use Rattle.rules.specs.Transmit.{wantsReply, timeoutOf}
 
+-- "nineteen accepted bus results": that of the message on the wire, those of the 17 queued before it, and its own
+abbrev pub nineteen : ℕ
+nineteen = 19
+
 -- What becomes of a transmit of handle h that was accepted and queued under number n, over the calls after it.
 pub record Fate (h : ℕ) (r : Request) (n : ℕ) (later : List Step) : Type 0 where
   -- "each transmit accepted and queued has had at most one transmit result"
   pub oneResultAtMost : results n (own n later) ≤ 1
   -- "It has had exactly one if its handle was not closed since and nineteen accepted bus results followed."
-  pub oneResult : closings h later ≡ 0 → 19 ≤ busResults later → results n (own n later) ≡ 1
+  pub oneResult : closings h later ≡ 0 → nineteen ≤ busResults later → results n (own n later) ≡ 1
   -- "It has had at most one reply entry,
   pub oneReplyAtMost : replies n (own n later) ≤ 1
   -- and that only if it asked for a reply and its result came earlier with the OK bit."
@@ -35,7 +39,7 @@ pub record Fate (h : ℕ) (r : Request) (n : ℕ) (later : List Step) : Type 0 w
 pub record Kept (history : List Step) : Type 0 where
   pub transmits : (past : List Step) (x : Step) (later : List Step) → history ≡ past ++ x ∷ later → (h : ℕ) (r : Request) (n : ℕ) → x .call ≡ callTransmit h r → x .answer ≡ accepted n 0 → Fate h r n later
   -- "No other handle can delay them past those bounds or push them out: all entries that came to an open handle since its last open are, in order, those its receives gave since then and then those its inbox holds."
-  pub inboxes : (past : List Step) (x : Step) → history ≡ past ++ x ∷ [] → (h : ℕ) → isOpen (x .after) h ≡ true → all (came h) (sinceOpen h history) ≡ all (gave h) (sinceOpen h history) ++ inboxOf (x .after .inboxes) h
+  pub inboxes : (past : List Step) (x : Step) → history ≡ past ++ x ∷ [] → (h : ℕ) → isOpen (x .after) h ≡ true → joined (came h) (sinceOpen h history) ≡ joined (gave h) (sinceOpen h history) ++ inboxOf (x .after .inboxes) h
 
 -- "Take any list of these calls by anyone, refused ones included, from a fresh adapter", whatever its capabilities
 abbrev pub Claim : Type 0

@@ -1,3 +1,4 @@
 pub mod Seen
 pub mod Claim
 pub mod Room
+pub mod Modes

@@ -8,6 +8,7 @@ use lib.ListN.{length}
 use Rattle.entry.specs.Entry.{resultCopy, messageCopy}
 use Rattle.entry.specs.declared.Counts.{Counts}
 use Rattle.inbox.specs.Inboxes.{inboxOf}
+use Rattle.lists.specs.Sums.{count}
 use Rattle.message.specs.declared.Message.{Message}
 use Rattle.rules.specs.Call.{Call}
 use Rattle.rules.specs.Deliver.{copies, each}
@@ -19,18 +20,26 @@ use Rattle.rules.specs.Step.{after}
 use Rattle.rules.specs.Time.{overdue, remaining, timeOut}
 use Rattle.rules.specs.Unconfigure.{abortTransmit, abortWait, unset}
 use Rattle.transmission.specs.declared.Transmission.{Transmission}
+use Rattle.wait.specs.Wait.{ownedBy}
 use Rattle.wait.specs.declared.Wait.{Wait}
 
 -- handle h can be given one more entry
 abbrev pub HasRoom : ℕ → State → Type 0
 HasRoom h s = length (inboxOf (s .inboxes) h) < 16
 
+-- "Waits: at most 4 per handle (H)", and so 32 of the eight handles together
+abbrev pub handleWaits : ℕ
+handleWaits = 4
+
+abbrev pub allWaits : ℕ
+allWaits = 32
+
 pub record Room (s : State) : Type 0 where
   -- entries plus owed room is at most 16
   pub owed : (h : ℕ) → h < 8 → roomTaken s h ≤ 16
   -- a bus result, after the copies for monitors: room for the result of a handle's transmission, and a place for its wait
   pub result : (t : Transmission) → s .wire ≡ t ∷ [] → t .owner < 8 → (status : ℕ) (counts : Counts) → HasRoom (t .owner) (copies (inRole isMonitor) (resultCopy status counts (t .message)) s)
-  pub wait : (t : Transmission) → s .wire ≡ t ∷ [] → t .«wants_reply» ≡ true → length (s .waits) < 32
+  pub wait : (t : Transmission) → s .wire ≡ t ∷ [] → t .«wants_reply» ≡ true → length (s .waits) < allWaits
   -- a message, after the copies for monitors: room for the reply of any wait
   pub reply : (past : List Wait) (w : Wait) (rest : List Wait) → s .waits ≡ past ++ w ∷ rest → (m : Message) → HasRoom (w .owner) (copies (inRole (monitors s m)) (messageCopy m) s)
   -- time passing, after the waits that end before this one
@@ -41,6 +50,8 @@ pub record Room (s : State) : Type 0 where
   -- the queue and the wire hold no more than they can
   pub queue : length (s .queue) ≤ 18
   pub wire : length (s .wire) ≤ 1
+  -- no handle has more waits than it may
+  pub waits : (h : ℕ) → count (ownedBy h) (s .waits) ≤ handleWaits
 
 -- in every state that calls lead to from a fresh adapter
 abbrev pub AlwaysRoom : Type 0

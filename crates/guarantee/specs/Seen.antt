@@ -191,6 +191,6 @@ sinceOpen h [] = []
 sinceOpen h (x ∷ xs) = cond (any (opens h) xs) (sinceOpen h xs) (cond (opens h x) xs (x ∷ xs))
 
 -- what each gives, one after the other
-abbrev pub all : (Step → List Entry) → List Step → List Entry
-all f [] = []
-all f (x ∷ xs) = f x ++ all f xs
+abbrev pub joined : (Step → List Entry) → List Step → List Entry
+joined f [] = []
+joined f (x ∷ xs) = f x ++ joined f xs

@@ -10,9 +10,8 @@ use lib.ListN.{length, set, length-append, length-set}
 use borrow.Author.Tests.{eqb-true, eqb-false, ne-eqb, ltb-true}
 use Rattle.entry.specs.Entry.{messageCopy}
 use Rattle.entry.specs.declared.Entry.{Entry}
-use Rattle.handle.specs.declared.Handle.{Handle}
 use Rattle.inbox.specs.Inboxes.{inboxOf}
-use Rattle.lists.specs.Elements.{map-append, set-rel}
+use Rattle.lists.specs.Elements.{map-append}
 use Rattle.lists.specs.Sums.{sum, sum-append, sum-map, sum-zero}
 use Rattle.lists.specs.Tests.{split, both, clash}
 use Rattle.lists.specs.Vector.{put}
@@ -20,12 +19,13 @@ use Rattle.message.specs.Message.{message}
 use Rattle.message.specs.declared.Message.{Message}
 use Rattle.rules.proofs.Entries.{messageCopy-shows}
 use Rattle.rules.proofs.Mail.{Mail, mail-same, mail-trans, copy-mail, arrives, delivered-inbox}
+use Rattle.rules.proofs.SameModes.{SameModes, modes-refl, modes-trans, modes-lost, same-open}
 use Rattle.rules.specs.Core.{sends, answers, notes, isAnswered, isNoted, coreAnswer}
 use Rattle.rules.specs.Deliver.{deliver, loses, copyTo, copies, each, handleNumbers}
 use Rattle.rules.specs.Handles.{handleAt, isOpen, inRole}
 use Rattle.rules.specs.Incoming.{followed, refusedMessage, isCopied, isUnhandled}
 use Rattle.rules.specs.Owed.{pending, roomOwed, owedRoom, roomTaken}
-use Rattle.rules.specs.State.{State, closedHandle, withHandles, withQueue, withNoted}
+use Rattle.rules.specs.State.{State, withHandles, withQueue, withNoted}
 use Rattle.transmission.specs.Transmission.{noOwner, ownerless, roomFor}
 use Rattle.transmission.specs.declared.Transmission.{Transmission}
 use Rattle.waits.specs.Waits.{Taken}
@@ -36,9 +36,8 @@ Owned f = (m : Message) → f (ownerless m) ≡ 0
 
 -- from s to t only copies came, and the core may have queued messages of its own
 pub record Aside (s t : State) : Type 0 where
-  pub handles : length (t .handles) ≡ length (s .handles)
+  pub modes : SameModes s t
   pub inboxes : length (t .inboxes) ≡ length (s .inboxes)
-  pub opens : (h : ℕ) → isOpen t h ≡ isOpen s h
   pub wire : t .wire ≡ s .wire
   pub waits : t .waits ≡ s .waits
   pub core : List Message
@@ -51,9 +50,8 @@ pub record Aside (s t : State) : Type 0 where
 -- nothing at all, one after the other, one or nothing, and several
 pub aside-refl : (s : State) → Aside s s
 aside-refl s = record {
-  handles = refl;
+  modes = modes-refl s;
   inboxes = refl;
-  opens = λ h. refl;
   wire = refl;
   waits = refl;
   core = [];
@@ -66,9 +64,8 @@ aside-refl s = record {
 
 pub aside-trans : (s t u : State) → Aside s t → Aside t u → Aside s u
 aside-trans s t u a b = record {
-  handles = b .handles ∙ a .handles;
+  modes = modes-trans s t u (a .modes) (b .modes);
   inboxes = b .inboxes ∙ a .inboxes;
-  opens = λ h. b .opens h ∙ a .opens h;
   wire = b .wire ∙ a .wire;
   waits = b .waits ∙ a .waits;
   core = a .core ++ b .core;
@@ -76,7 +73,7 @@ aside-trans s t u a b = record {
   fits = λ l. b .fits (a .fits l);
   mail = λ h. mail-trans h s t u [] [] (a .mail h) (b .mail h);
   room = λ h l r. b .room h l (a .room h l r);
-  none = λ h e. b .none h (a .opens h ∙ e) ∙ a .none h e;
+  none = λ h e. b .none h (same-open s t (a .modes) h ∙ e) ∙ a .none h e;
 }
 
 pub aside-if : (b : Bool) (s t : State) → Aside s t → Aside s (cond b t s)
@@ -112,9 +109,8 @@ aside-owed s t a h l = rw (a .waits) (omega (arith, aside-sum (roomFor h) (room-
 -- a copy: dropped and counted as lost, or delivered
 lost-aside : (s : State) (g : ℕ) → Aside s (withHandles s (set (s .handles) g (loses (handleAt s g))))
 lost-aside s g = record {
-  handles = length-set (s .handles) g (loses (handleAt s g));
+  modes = modes-lost s g;
   inboxes = refl;
-  opens = λ h. set-rel (λ (x y : Handle). x .«is_open» ≡ y .«is_open») (λ x. refl) (s .handles) g h (loses (handleAt s g)) closedHandle refl;
   wire = refl;
   waits = refl;
   core = [];
@@ -138,9 +134,8 @@ delivered-room s g e h q r =
 
 deliver-aside : (e : Entry) → e .sequence ≡ 0 → (s : State) (g : ℕ) → isOpen s g ≡ true → eqb (roomTaken s g) 16 ≡ false → Aside s (deliver s g e)
 deliver-aside e n s g o q = record {
-  handles = refl;
+  modes = record { capabilities = refl; handles = refl };
   inboxes = length-set (s .inboxes) g (put 16 (inboxOf (s .inboxes) g) e);
-  opens = λ h. refl;
   wire = refl;
   waits = refl;
   core = [];
@@ -172,9 +167,8 @@ copies-aside p e n s =
 sent-aside : (s : State) (m : Message) → length (s .queue) < 18 → Aside s (withQueue s (s .queue ++ (ownerless m ∷ [])))
 unfolding roomOwed
 sent-aside s m k = record {
-  handles = refl;
+  modes = record { capabilities = refl; handles = refl };
   inboxes = refl;
-  opens = λ h. refl;
   wire = refl;
   waits = refl;
   core = m ∷ [];
@@ -196,9 +190,8 @@ sends-aside s bytes = aside-if (s .capabilities .transmit) s (withQueue s (put 1
 -- the steps of a message from the wire that end no wait
 noted-aside : (s : State) (x : List ℕ) → Aside s (withNoted s x)
 noted-aside s x = record {
-  handles = refl;
+  modes = record { capabilities = refl; handles = refl };
   inboxes = refl;
-  opens = λ h. refl;
   wire = refl;
   waits = refl;
   core = [];

@@ -7,4 +7,5 @@ pub mod Accepted
 pub mod CoreSends
 pub mod Deliveries
 pub mod Mail
+pub mod SameModes
 pub mod Aside

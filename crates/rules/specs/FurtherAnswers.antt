@@ -1,6 +1,6 @@
 -- More answers, worked out by hand from document 01, as one table: the known answers that are not starred, the checks of each call, and places that can be read in two ways.
 -- Assumes nothing.
-use Prim.Native.Nat.{ℕ, _-_}
+use Prim.Native.Nat.{ℕ, zero, suc, _-_}
 use mathlib.Core.Bool.{true, false}
 use mathlib.Core.List.{List, [], _∷_, _++_}
 use lib.ListN.{length, replicate}
@@ -44,6 +44,11 @@ setting address mask version type vendor name =
 abbrev pub times : ℕ → Call → List Call → List Call
 times n c cs = replicate n c ++ cs
 
+-- n messages of the queue sent, and then other calls
+abbrev pub sentFirst : ℕ → List Call → List Call
+sentFirst zero cs = cs
+sentFirst (suc n) cs = callBusStart ∷ ok ∷ sentFirst n cs
+
 -- what a bus start gives for these bytes, and a receive for an entry without counts: number, tx_status, rx_status and length
 abbrev pub out : List ℕ → List ℕ
 out bytes = 0 ∷ length bytes ∷ bytes ++ replicate (16 - length bytes) 0
@@ -54,8 +59,8 @@ got number tx rx size = 0 ∷ number ∷ tx ∷ rx ∷ size ∷ 0 ∷ 0 ∷ 0 �
 abbrev pub furtherAnswers : List Case
 furtherAnswers =
     -- 16 bytes are taken, 17 are not
-    record { start = bench true; calls = callTransmit 0 (request (0x40 ∷ 0x8F ∷ 0x8F ∷ 0x8F ∷ 0x8F ∷ 0x8F ∷ 0x8F ∷ 0x8F ∷ 0x8F ∷ 0x8F ∷ 0x8F ∷ 0x8F ∷ 0x8F ∷ 0x8F ∷ 0x8F ∷ 0x8F ∷ []) 0x00) ∷ []; gives = 0 ∷ 1 ∷ 0 ∷ [] }
-    ∷ record { start = bench true; calls = callTransmit 0 (request (0x40 ∷ 0x8F ∷ 0x8F ∷ 0x8F ∷ 0x8F ∷ 0x8F ∷ 0x8F ∷ 0x8F ∷ 0x8F ∷ 0x8F ∷ 0x8F ∷ 0x8F ∷ 0x8F ∷ 0x8F ∷ 0x8F ∷ 0x8F ∷ 0x8F ∷ []) 0x00) ∷ []; gives = EINVAL ∷ [] }
+    record { start = bench true; calls = callTransmit 0 (request (0x40 ∷ replicate 15 0x8F) 0x00) ∷ []; gives = 0 ∷ 1 ∷ 0 ∷ [] }
+    ∷ record { start = bench true; calls = callTransmit 0 (request (0x40 ∷ replicate 16 0x8F) 0x00) ∷ []; gives = EINVAL ∷ [] }
     ∷ record { start = bench true; calls = sending [] 0x00 0 0 ∷ []; gives = EINVAL ∷ [] }
     -- only flag 1
     ∷ record { start = bench true; calls = sending (0x40 ∷ 0x8F ∷ []) 0x00 0 2 ∷ []; gives = EINVAL ∷ [] }
@@ -84,6 +89,12 @@ furtherAnswers =
     ∷ record { start = bench true; calls = callOpen true ∷ callMode 0 0x12 ∷ callMode 1 0x02 ∷ []; gives = EBUSY ∷ [] }
     ∷ record { start = bench true; calls = callOpen true ∷ callMode 0 0x21 ∷ callMode 1 0x31 ∷ []; gives = EBUSY ∷ [] }
     ∷ record { start = bench true; calls = callOpen true ∷ callMode 0 0x22 ∷ callMode 0 0x32 ∷ []; gives = 0 ∷ [] }
+    -- one's own mode again: that of an open, exclusive roles, a monitor
+    ∷ record { start = bench true; calls = rows 8 ∷ []; gives = 0 ∷ 0 ∷ 1 ∷ 0x01 ∷ 0 ∷ 0 ∷ 0 ∷ [] }
+    ∷ record { start = unable; calls = callMode 0 0x01 ∷ []; gives = 0 ∷ [] }
+    ∷ record { start = bench true; calls = callMode 0 0x02 ∷ callMode 0 0x02 ∷ []; gives = 0 ∷ [] }
+    ∷ record { start = bench true; calls = callMode 0 0x31 ∷ callMode 0 0x31 ∷ []; gives = 0 ∷ [] }
+    ∷ record { start = bench true; calls = callMode 0 0xE0 ∷ callMode 0 0xE0 ∷ []; gives = 0 ∷ [] }
     -- a monitor may not transmit
     ∷ record { start = bench true; calls = callMode 0 0xE0 ∷ plain 0 ∷ []; gives = EPERM ∷ [] }
     -- an exclusive initiator keeps the others out
@@ -113,6 +124,11 @@ furtherAnswers =
     -- 18 queued beside one on the wire, and no 19th
     ∷ record { start = bench true; calls = callOpen true ∷ callOpen true ∷ times 10 (plain 0) (callBusStart ∷ times 9 (plain 1) []); gives = 0 ∷ 19 ∷ 0 ∷ [] }
     ∷ record { start = bench true; calls = callOpen true ∷ callOpen true ∷ times 10 (plain 0) (callBusStart ∷ times 9 (plain 1) (plain 2 ∷ [])); gives = EBUSY ∷ [] }
+    -- the core's answer may be the 18th, and then there is no 19th; with 18 queued it is dropped
+    ∷ record { start = bench true; calls = callOpen true ∷ times 16 (plain 0) (plain 1 ∷ incoming (0x04 ∷ 0x9F ∷ []) ∷ sentFirst 17 (callBusStart ∷ [])); gives = out (0x40 ∷ 0x9E ∷ 0x05 ∷ []) }
+    ∷ record { start = bench true; calls = callOpen true ∷ times 16 (plain 0) (plain 1 ∷ incoming (0x04 ∷ 0x9F ∷ []) ∷ plain 1 ∷ []); gives = EBUSY ∷ [] }
+    ∷ record { start = bench true; calls = callOpen true ∷ times 16 (plain 0) (plain 1 ∷ plain 1 ∷ incoming (0x04 ∷ 0x9F ∷ []) ∷ sentFirst 17 (callBusStart ∷ [])); gives = out (0x40 ∷ 0x8F ∷ []) }
+    ∷ record { start = bench true; calls = callOpen true ∷ times 16 (plain 0) (plain 1 ∷ plain 1 ∷ incoming (0x04 ∷ 0x9F ∷ []) ∷ sentFirst 18 (callBusStart ∷ [])); gives = EAGAIN ∷ [] }
     -- 4 wanted replies, and no 5th
     ∷ record { start = bench true; calls = times 4 (asking 0) []; gives = 0 ∷ 4 ∷ 0 ∷ [] }
     ∷ record { start = bench true; calls = times 5 (asking 0) []; gives = EBUSY ∷ [] }
@@ -141,6 +157,9 @@ furtherAnswers =
     ∷ record { start = bench true; calls = sending (0x40 ∷ 0x8F ∷ []) 0x90 500 0 ∷ sending (0x40 ∷ 0x8F ∷ []) 0x90 300 0 ∷ callBusStart ∷ ok ∷ callBusStart ∷ ok ∷ callReceive 0 ∷ callReceive 0 ∷ callTime 299 ∷ callReceive 0 ∷ []; gives = EAGAIN ∷ [] }
     ∷ record { start = bench true; calls = sending (0x40 ∷ 0x8F ∷ []) 0x90 500 0 ∷ sending (0x40 ∷ 0x8F ∷ []) 0x90 300 0 ∷ callBusStart ∷ ok ∷ callBusStart ∷ ok ∷ callReceive 0 ∷ callReceive 0 ∷ callTime 299 ∷ callTime 1 ∷ callReceive 0 ∷ []; gives = got 2 0x00 0x02 2 }
     ∷ record { start = bench true; calls = sending (0x40 ∷ 0x8F ∷ []) 0x90 500 0 ∷ sending (0x40 ∷ 0x8F ∷ []) 0x90 300 0 ∷ callBusStart ∷ ok ∷ callBusStart ∷ ok ∷ callReceive 0 ∷ callReceive 0 ∷ callTime 300 ∷ callReceive 0 ∷ callReceive 0 ∷ []; gives = EAGAIN ∷ [] }
+    -- time in the queue and on the wire does not count
+    ∷ record { start = bench true; calls = asking 0 ∷ callTime 500 ∷ callBusStart ∷ ok ∷ callReceive 0 ∷ callTime 500 ∷ callReceive 0 ∷ []; gives = EAGAIN ∷ [] }
+    ∷ record { start = bench true; calls = asking 0 ∷ callBusStart ∷ callTime 500 ∷ ok ∷ callReceive 0 ∷ callTime 500 ∷ callReceive 0 ∷ []; gives = EAGAIN ∷ [] }
     -- timeout 0 is 1000 ms, from the result on
     ∷ record { start = bench true; calls = asking 0 ∷ callTime 5000 ∷ callBusStart ∷ ok ∷ callReceive 0 ∷ callTime 999 ∷ callReceive 0 ∷ []; gives = EAGAIN ∷ [] }
     ∷ record { start = bench true; calls = asking 0 ∷ callTime 5000 ∷ callBusStart ∷ ok ∷ callReceive 0 ∷ callTime 1000 ∷ callReceive 0 ∷ []; gives = got 1 0x00 0x02 2 }
@@ -170,9 +189,12 @@ furtherAnswers =
     ∷ record { start = unconfigured; calls = setting 0x1000 0x0010 5 4 0 15 ∷ []; gives = EINVAL ∷ [] }
     ∷ record { start = unconfigured; calls = setting 0x1000 0x4444 5 4 0 1 ∷ []; gives = 0 ∷ [] }
     ∷ record { start = unconfigured; calls = setting 0x1000 0x0010 4 7 16777215 14 ∷ []; gives = 0 ∷ [] }
-    -- lengths from the wire
-    ∷ record { start = bench true; calls = callMessage 0 (replicate 16 0) ∷ []; gives = EINVAL ∷ [] }
+    -- from the wire too, 16 bytes are taken, 17 are not
+    ∷ record { start = bench true; calls = incoming (0x0F ∷ replicate 15 0xA0) ∷ []; gives = 0 ∷ [] }
+    ∷ record { start = bench true; calls = callMode 0 0xF0 ∷ incoming (0x0F ∷ replicate 15 0xA0) ∷ callReceive 0 ∷ []; gives = got 0 0x00 0x01 16 }
+    ∷ record { start = bench true; calls = incoming (0x0F ∷ replicate 16 0xA0) ∷ []; gives = EINVAL ∷ [] }
     ∷ record { start = bench true; calls = callMessage 17 (replicate 16 0) ∷ []; gives = EINVAL ∷ [] }
+    ∷ record { start = bench true; calls = callMessage 0 (replicate 16 0) ∷ []; gives = EINVAL ∷ [] }
     -- the core answers
     ∷ record { start = bench true; calls = incoming (0x04 ∷ 0x9F ∷ []) ∷ callBusStart ∷ []; gives = out (0x40 ∷ 0x9E ∷ 0x05 ∷ []) }
     ∷ record { start = bench true; calls = incoming (0x04 ∷ 0x8C ∷ []) ∷ callBusStart ∷ []; gives = out (0x4F ∷ 0x87 ∷ 0x00 ∷ 0xA0 ∷ 0xB0 ∷ []) }

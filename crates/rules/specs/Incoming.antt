@@ -18,7 +18,7 @@ use Rattle.waits.specs.Waits.{Taken, matchTaken}
 
 -- "Length not 1 to 16: EINVAL."
 abbrev pub incomingRefusal : ℕ → ℕ
-incomingRefusal length = check (not (leb 1 length && leb length 16)) EINVAL 0
+incomingRefusal n = check (not (leb 1 n && leb n 16)) EINVAL 0
 
 -- 1. "0xF0 gets all, 0xE0 those to 15 or an own address"
 abbrev pub monitors : State → Message → ℕ → Bool
@@ -71,4 +71,4 @@ heard s m =
     cond (stops s m) copied (handled copied (matchTaken m (s .waits)) m)
 
 unfoldable pub doMessage : State → ℕ → List ℕ → Outcome
-doMessage s length bytes = unless (incomingRefusal length) s (finish Answer.done (heard s (message length bytes)))
+doMessage s n bytes = unless (incomingRefusal n) s (finish Answer.done (heard s (message n bytes)))
