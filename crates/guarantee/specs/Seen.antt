@@ -149,7 +149,7 @@ isResult n e = eqb (e .sequence) n && not (eqb (e .«tx_status») 0)
 abbrev pub isReplyEntry : ℕ → Entry → Bool
 isReplyEntry n e = eqb (e .sequence) n && not (eqb (e .«rx_status») 0)
 
--- "its result had the OK bit"
+-- "its result came earlier with the OK bit"
 abbrev pub isOkResult : ℕ → Entry → Bool
 isOkResult n e = isResult n e && hasBit CEC-TX-STATUS-OK (e .«tx_status»)
 

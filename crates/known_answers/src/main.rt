@@ -105,8 +105,14 @@ fn result(status: u8) -> u32 {
     sending(0).bus_result(status, Counts::none()).errno
 }
 
-// The errno of a message of this length.
-fn message(length: u8) -> u32 {
+// The errno of a message of this length: a transmit, and one from the wire.
+fn sent(length: u8) -> u32 {
+    bench(true)
+        .transmit(0, request(length, 0x40, 0x8F, 0))
+        .errno
+}
+
+fn came(length: u8) -> u32 {
     bench(true).message(length, [0x0F; 16]).errno
 }
 
@@ -126,15 +132,21 @@ fn sixteen() -> Adapter {
     )
 }
 
-// The errno of the 18th, and of the 19th.
-fn eighteenth() -> u32 {
-    one(sixteen(), 0).transmit(1, request(2, 0x40, 0x8F, 0))
-        .errno
+fn seventeen() -> Adapter {
+    one(sixteen(), 0)
 }
 
-fn nineteenth() -> u32 {
-    one(one(sixteen(), 0), 1).transmit(1, request(2, 0x40, 0x8F, 0))
-        .errno
+// The errno of one more.
+fn more(adapter: Adapter) -> u32 {
+    adapter.transmit(1, request(2, 0x40, 0x8F, 0)).errno
+}
+
+// The TV asks for the CEC version, and the core answers: one more in the queue, if there is room.
+fn version_asked(adapter: Adapter) -> Adapter {
+    let mut bytes = [0; 16];
+    bytes[0] = 0x04;
+    bytes[1] = 0x9F;
+    adapter.message(2, bytes).adapter
 }
 
 fn last_number() -> u32 {
@@ -167,8 +179,18 @@ fn main() {
     line(b"result 0x21: errno ", result(0x21));
     line(b"result 0x02: errno ", result(0x02));
     line(b"last number 4294967295: next is ", last_number());
-    line(b"message of 16 bytes: errno ", message(16));
-    line(b"message of 17 bytes: errno ", message(17));
-    line(b"18th queued: errno ", eighteenth());
-    line(b"19th queued: errno ", nineteenth());
+    line(b"message of 16 bytes: errno ", sent(16));
+    line(b"message of 17 bytes: errno ", sent(17));
+    line(b"message of 16 bytes from the wire: errno ", came(16));
+    line(b"message of 17 bytes from the wire: errno ", came(17));
+    line(b"18th queued: errno ", more(seventeen()));
+    line(b"19th queued: errno ", more(one(seventeen(), 1)));
+    line(
+        b"18th queued by the core: the next, errno ",
+        more(version_asked(seventeen())),
+    );
+    line(
+        b"19th of the core dropped: the next after a start, errno ",
+        more(version_asked(one(seventeen(), 1)).bus_start().adapter),
+    );
 }

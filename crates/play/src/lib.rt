@@ -36,6 +36,7 @@ fn plain(errno: u32) -> Said
 // Before any record.
 pub fn nothing(adapter: Adapter) -> Played
     ensures { λ r. ⌜ r .adapter ≡ adapter ⌝ }
+    ensures { λ r. ⌜ saidOf (r .said) ≡ 0 ∷ [] ⌝ }
 {
     Played {
         adapter: adapter,

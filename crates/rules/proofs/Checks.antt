@@ -3,7 +3,7 @@
 use Prim.Native.Nat.{ℕ}
 use mathlib.Core.Bool.{Bool, true, false, cond}
 use mathlib.Core.Logic.{_≢_}
-use mathlib.Core.Path.{_≡_, refl, sym, _∙_}
+use mathlib.Core.Path.{_≡_, refl, sym, ap, _∙_}
 use lib.Dec.{eqb}
 use borrow.Author.Tests.{eq-eqb, ne-eqb, eqb-true}
 use Rattle.lists.specs.Tests.{split}
@@ -26,18 +26,24 @@ unfolding check
 onward b e later n q r = rw (q, r)
 
 -- the number of the checks so far, or what the later ones say
-abbrev pub first : ℕ → ℕ → ℕ
-first n later = cond (eqb n 0) later n
+abbrev pub firstRefusal : ℕ → ℕ → ℕ
+firstRefusal n later = cond (eqb n 0) later n
 
 -- a check more before them
-pub first-check : (b : Bool) (e n later : ℕ) → e ≢ 0 → check b e (first n later) ≡ first (check b e n) later
+first-refusal-check : (b : Bool) (e n later : ℕ) → e ≢ 0 → check b e (firstRefusal n later) ≡ firstRefusal (check b e n) later
 unfolding check
-first-check true e n later z = sym (rw (ne-eqb e 0 z))
-first-check false e n later z = refl
+first-refusal-check true e n later z = sym (rw (ne-eqb e 0 z))
+first-refusal-check false e n later z = refl
 
--- checks that can be made before the later ones are known
+-- checks that can be made before the later ones are known: none, and one more before such
 abbrev pub Leads : (ℕ → ℕ) → Type 0
-Leads checks = (later : ℕ) → checks later ≡ first (checks 0) later
+Leads checks = (later : ℕ) → checks later ≡ firstRefusal (checks 0) later
+
+pub leads-none : Leads (λ later. later)
+leads-none later = refl
+
+pub leads-check : (b : Bool) (e : ℕ) (checks : ℕ → ℕ) → e ≢ 0 → Leads checks → Leads (λ later. check b e (checks later))
+leads-check b e checks z l later = ap (check b e) (l later) ∙ first-refusal-check b e (checks 0) later z
 
 pub refuses : (checks : ℕ → ℕ) → Leads checks → (n later : ℕ) → n ≡ checks 0 → n ≢ 0 → n ≡ checks later
 refuses checks l n later q z = sym (l later ∙ rw (← q, ne-eqb n 0 z))

@@ -139,7 +139,9 @@ returns c =
     (taken-outcome (stateOf p) _ _ _ _ _ (errno .ensures) (w .0 .taken) (ap₂ (λ (e : Entry) (is : List (List Entry)). finish (Answer.received e) (withInboxes (stateOf p) is)) given left), λ z. absurd (z (w .0 .taken))))
     (λ w.
     let same = ap₂ (withArrays p) (w .2) (w .3) in
-    (ap (λ (q : Parts). finish (orRefused (errno .result) (Answer.received (c .if1 .entry))) (stateOf q)) same ∙ refused-outcome (stateOf p) _ _ _ _ (errno .ensures) (w .0 .left), λ _. refused-answer p _ _ _ same (w .1 ∙ c .before .before .before .none .ensures)))
+    let none = w .1 ∙ c .before .before .before .none .ensures in
+    let refused = refused-outcome (stateOf p) _ _ _ _ (errno .ensures) (w .0 .left) in
+    (ap (λ (q : Parts). finish (orRefused (errno .result) (Answer.received (c .if1 .entry))) (stateOf q)) same ∙ refused, λ _. refused-answer p _ _ _ same none))
     (c .if1 .came)
 
 pub receive-spec : {M : Type 1} → statement M

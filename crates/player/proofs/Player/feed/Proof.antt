@@ -196,7 +196,7 @@ returns-2 c =
     (λ w. idle-ended z (drop (l .taken) p) (length o - l .written) (not-false (l .cursor .ended) (w .2 .left)))
     (λ w. idle-done z p (l .taken) (length o - l .written) (w .left)) w)
     (c .before .loop-test .came) in
-    rw (c .after .ensures) (has-room o (omega arith), (ends _ p o z (l .taken) (l .written) (l .out) (l .inv .0) i ∙ ap (λ (x : Adapter). givenBy (taken (sessionWith (stateOf x) (a .self .bytes) (a .self .cursor)) p (length o)) o) (b .nothing .ensures), ((λ q. absurd (q refl)), (l .inv .0 .within, omega (arith, l .inv .0 .long, l .inv .0 .room)))))
+    rw (c .after .ensures) (has-room o (omega arith), (ends _ p o z (l .taken) (l .written) (l .out) (l .inv .0) i ∙ ap (λ (x : Adapter). givenBy (taken (sessionWith (stateOf x) (a .self .bytes) (a .self .cursor)) p (length o)) o) (b .nothing .ensures .0), ((λ q. absurd (q refl)), (l .inv .0 .within, omega (arith, l .inv .0 .long, l .inv .0 .room)))))
 
 pub feed-spec : {M : Type 1} → statement M
 feed-spec =
