@@ -1,5 +1,6 @@
 /*
  * The structs and functions of clothbadger.h are those of the proved code: sizes, alignments, the offset and type of each field, and prototypes.
+ * Answers, entries and rows have no padding, and the places that cec_new() copies are those of the fields that are meant.
  * c/run makes structs.inc and prototypes.inc, the structs and exported functions of the Rattle sources in C, and offsets.inc, the layout that is proved.
  */
 #include "clothbadger.h"

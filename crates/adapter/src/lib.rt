@@ -1,4 +1,4 @@
-// The adapter and its calls, each exactly its rule. A refused call hands back the adapter that came in.
+// The adapter and its calls, each exactly its rule. A refused call hands back the adapter that came in, its number, and nothing else.
 ghost use mathlib.Core.Logic.{_≢_};
 ghost use mathlib.Core.Path.{_≡_};
 ghost use Rattle.adapter.specs.Adapter.{stateOf, doneOf, openedOf, transmittedOf, receivedOf, startedOf, refusedCall, refusedOpen, refusedTransmit, refusedReceive, refusedBusStart};

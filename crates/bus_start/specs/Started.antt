@@ -1,4 +1,4 @@
--- The answer of bus start, read as an outcome of the rules.
+-- The answer of bus start, read as an outcome of the rules (document 01, "Numbers given back").
 -- Assumes nothing.
 use Prim.Native.Nat.{ℕ}
 use Rattle.bus_start.specs.declared.Started.{Started}
@@ -10,6 +10,6 @@ use Rattle.rules.specs.Call.{Outcome, finish, started}
 abbrev pub startedOf : Started → Outcome
 startedOf r = finish (orRefused (r .errno) (started (r .message))) (stateOf (r .parts))
 
--- "A refusal returns its number and no other content; nothing changes" (document 01, "Numbers given back"): the whole answer of a call that is refused
+-- "A refusal returns its number and no other content; nothing changes": the whole answer
 abbrev pub refusedBusStart : Parts → ℕ → Started
 refusedBusStart p errno = record { parts = p; errno = errno; message = noMessage }

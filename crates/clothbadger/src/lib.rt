@@ -4,13 +4,12 @@ ghost use mathlib.Core.Path.{_≡_};
 ghost use prog.Memory.{size};
 ghost use Rattle.adapter.proofs.Adapter.Laws as adapter-laws;
 ghost use Rattle.adapter.specs.Adapter.{stateOf, doneOf, openedOf, transmittedOf, receivedOf, startedOf, refusedCall, refusedOpen, refusedTransmit, refusedReceive, refusedBusStart};
-ghost use Rattle.listing.specs.Rows.{listedOf};
+ghost use Rattle.listing.specs.Rows.{Lists};
 ghost use Rattle.lists.specs.Tests.{bit};
 ghost use Rattle.message.specs.Reply.{isReply};
 ghost use Rattle.request.specs.Request.{requestOf};
 ghost use Rattle.rows.specs.Noted.{notedOf, refusedLookup};
-ghost use Rattle.rules.specs.Call.{callOpen, callClose, callMode, callTransmit, callReceive, callBusStart, callBusResult, callMessage, callTime, callConfigure, callUnconfigure, callListing, callLookup};
-ghost use Rattle.rules.specs.Listing.{rowsAfter};
+ghost use Rattle.rules.specs.Call.{callOpen, callClose, callMode, callTransmit, callReceive, callBusStart, callBusResult, callMessage, callTime, callConfigure, callUnconfigure, callLookup};
 ghost use Rattle.rules.specs.State.{fresh};
 ghost use Rattle.rules.specs.Step.{step};
 use adapter::Adapter;
@@ -138,7 +137,7 @@ pub extern "C" fn cec_adapter_unconfigure(adapter: Adapter) -> Done
 // "Under 8 rows: EINVAL; rows past 8 stay." The errno is given back, 0 for success; a refusal leaves the rows as they were.
 #[no_mangle]
 pub extern "C" fn cec_adapter_listing(adapter: Adapter, rows: &mut [Row]) -> u32
-    ensures { λ r. ⌜ (now (rows .exit) ≡ rowsAfter (stateOf adapter) (now (rows .entry))) × (listedOf (stateOf adapter) r (now (rows .exit)) ≡ step (stateOf adapter) (callListing (now (rows .entry)))) ⌝ }
+    ensures { λ r. ⌜ Lists (stateOf adapter) (now (rows .entry)) r (now (rows .exit)) ⌝ }
 {
     listing::listing(adapter, rows)
 }

@@ -99,10 +99,10 @@ pub fn has(handles: Handles, kind: u8) -> bool
     ensures { λ r. ⌜ r ≡ any (inRole (getsCopies kind)) (handlesOf handles) ⌝ }
 {
     let mut found = false;
-    let mut number: u8 = 0;
-    while number < 8 {
-        found = found | is_copied(kind, handles.at(number));
-        number += 1;
+    let mut h: u8 = 0;
+    while h < 8 {
+        found = found | is_copied(kind, handles.at(h));
+        h += 1;
     }
     found
 }

@@ -19,7 +19,7 @@ use Rattle.guarantee.proofs.Keeps.{keeps}
 use Rattle.guarantee.proofs.Parts.{parted, own-parted, own-after}
 use Rattle.guarantee.proofs.Reached.{kept}
 use Rattle.guarantee.proofs.Totals.{nobody, own-results, all-results, placed-most, own-replies, all-replies, closed-results, closed-replies, kept-results, kept-alike, kept-waits, kept-oks}
-use Rattle.guarantee.specs.Claim.{nineteen, Fate}
+use Rattle.guarantee.specs.Claim.{enoughResults, Fate}
 use Rattle.guarantee.specs.Seen.{came, closes, gives, givesTo, doneBy, isClose, milliseconds, isResult, isReplyEntry, isOkResult, cameTo, cameToAny, results, okResults, replies, busResults, closings, elapsed, own}
 use Rattle.lists.specs.Spread.{upto-one}
 use Rattle.lists.specs.Sums.{sum-append, sum-le, count}
@@ -67,7 +67,7 @@ module _ (h : ℕ) (x : Request) (n : ℕ) (s : State) (r : Inv s) (b : Began h 
   result-once : results n (own n (run s cs)) ≤ 1
   result-once = omega (arith, results-here, own-results h n (b .home) (b .some) s cs r, b .one)
 
-  result-comes : closings h (run s cs) ≡ 0 → nineteen ≤ busResults (run s cs) → results n (own n (run s cs)) ≡ 1
+  result-comes : closings h (run s cs) ≡ 0 → enoughResults ≤ busResults (run s cs) → results n (own n (run s cs)) ≡ 1
   result-comes z k =
       let p = placed-most h n (b .home) (b .some) s r in
       omega (arith, results-here, b .one, all-results h n (b .home) (b .some) s cs r z (omega arith))
@@ -183,7 +183,7 @@ module _ (h : ℕ) (x : Request) (n : ℕ) (s : State) (r : Inv s) (b : Began h 
           sum-append (λ y. count (isReplyEntry n) (came h y)) (run s ds) (stepOf before c ∷ own n (run then es)),
         ))))
 
-  -- ---- all of it
+  -- ---- all of it, each clause from a law on numbers, so that a weaker clause would be proved too and only a broken history refuses it
   pub fate : Fate h x n (run s cs)
   fate = record {
     oneResultAtMost = omega (arith, result-once);

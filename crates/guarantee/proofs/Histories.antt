@@ -6,7 +6,7 @@ use mathlib.Core.List.{List, [], _∷_, _++_, map}
 use mathlib.Core.Path.{_≡_, refl}
 use lib.ListN.{drop, replicate, length}
 use Rattle.entry.specs.Entry.{noCounts}
-use Rattle.guarantee.specs.Claim.{nineteen}
+use Rattle.guarantee.specs.Claim.{enoughResults}
 use Rattle.guarantee.specs.Room.{handleWaits, allWaits}
 use Rattle.guarantee.specs.Seen.{came, gave, results, okResults, replies, busResults, closings, elapsed, own, sinceOpen, joined}
 use Rattle.lists.specs.Sums.{count}
@@ -107,8 +107,8 @@ behind more = run (step busy (callTransmit 1 tells) .state) (again 18 (callBusRe
 
 -- it has not had its result after one bus result less than nineteen, and has it with the nineteenth
 last-of-nineteen : (length (busy .wire) ≡ 1) × (length (busy .queue) ≡ 17) × (step busy (callTransmit 1 tells) .answer ≡ accepted 19 0)
-    × (busResults (behind []) + 1 ≡ nineteen) × (results 19 (own 19 (behind [])) ≡ 0)
-    × (busResults (behind (callBusResult 0x01 noCounts ∷ [])) ≡ nineteen) × (results 19 (own 19 (behind (callBusResult 0x01 noCounts ∷ []))) ≡ 1)
+    × (busResults (behind []) + 1 ≡ enoughResults) × (results 19 (own 19 (behind [])) ≡ 0)
+    × (busResults (behind (callBusResult 0x01 noCounts ∷ [])) ≡ enoughResults) × (results 19 (own 19 (behind (callBusResult 0x01 noCounts ∷ []))) ≡ 1)
 unfolding message fresh roomOwed repliesWanted isTaken copies unless check doOpen numberAfter doTransmit doBusStart doBusResult isFinal keptCounts doConfigure
 last-of-nineteen = (refl, refl, refl, refl, refl, refl, refl)
 

@@ -1,4 +1,4 @@
--- Demand 3, in the user's words, about any list of calls by anyone from a fresh adapter, refused ones included.
+-- Demand 3 (document 00), in the user's words, about any list of calls by anyone from a fresh adapter, refused ones included.
 -- Assumes nothing.
 use Prim.Native.Nat.{ℕ, _≤_}
 use mathlib.Core.Bool.{true}
@@ -15,15 +15,15 @@ use Rattle.rules.specs.Step.{Step, run}
 use Rattle.rules.specs.Transmit.{wantsReply, timeoutOf}
 
 -- "nineteen accepted bus results": that of the message on the wire, those of the 17 queued before it, and its own
-abbrev pub nineteen : ℕ
-nineteen = 19
+abbrev pub enoughResults : ℕ
+enoughResults = 19
 
 -- What becomes of a transmit of handle h that was accepted and queued under number n, over the calls after it.
 pub record Fate (h : ℕ) (r : Request) (n : ℕ) (later : List Step) : Type 0 where
   -- "each transmit accepted and queued has had at most one transmit result"
   pub oneResultAtMost : results n (own n later) ≤ 1
   -- "It has had exactly one if its handle was not closed since and nineteen accepted bus results followed."
-  pub oneResult : closings h later ≡ 0 → nineteen ≤ busResults later → results n (own n later) ≡ 1
+  pub oneResult : closings h later ≡ 0 → enoughResults ≤ busResults later → results n (own n later) ≡ 1
   -- "It has had at most one reply entry,
   pub oneReplyAtMost : replies n (own n later) ≤ 1
   -- and that only if it asked for a reply and its result came earlier with the OK bit."

@@ -1,4 +1,4 @@
--- What can be seen of a history of calls: read off the calls, their answers and the two states of each, and not off anything that the rules write down about themselves.
+-- What can be seen of a history of calls (document 01, "What a reader may hold us to"): read off the calls, their answers and the two states of each, and not off anything that the rules write down about themselves.
 -- Assumes nothing.
 use Prim.Native.Nat.{ℕ, _-_}
 use mathlib.Core.Bool.{Bool, true, false, cond, _&&_, _||_, not}

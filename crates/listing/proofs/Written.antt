@@ -58,7 +58,7 @@ pub full-says : (a : Adapter) (rs : List Row) → 8 ≤ length rs → Says a rs 
 unfolding rowIn rowsAfter doListing unless check
 full-says a rs h = let e = le-ltb (length rs) 8 h in (rw e, rw e)
 
-no-refusal : (e : ℕ) (rs : List Row) → refused e ≡ listed rs → ⊥
+pub no-refusal : (e : ℕ) (rs : List Row) → refused e ≡ listed rs → ⊥
 no-refusal e rs q = let p : _≡_ {A = ℕ} 0 1 = cc in omega (arith, p)
 
 -- of eight rows all are filled, and none refused

@@ -3,11 +3,9 @@ ghost use mathlib.Core.List.{map};
 ghost use mathlib.Core.Path.{_≡_};
 ghost use Prim.Native.Nat.{_<_};
 ghost use Rattle.adapter.specs.Adapter.{stateOf};
-ghost use Rattle.listing.specs.Rows.{listedOf};
-ghost use Rattle.rules.specs.Call.{callListing};
+ghost use Rattle.listing.specs.Rows.{Lists};
 ghost use Rattle.rules.specs.Deliver.{handleNumbers};
-ghost use Rattle.rules.specs.Listing.{rowOf, rowsAfter};
-ghost use Rattle.rules.specs.Step.{step};
+ghost use Rattle.rules.specs.Listing.{rowOf};
 use adapter::Adapter;
 use constants::EINVAL;
 use handle::Row;
@@ -30,7 +28,7 @@ fn row_at(adapter: Adapter, i: usize) -> Row
 
 // "Under 8 rows: EINVAL; rows past 8 stay." The errno is given back, 0 for success; a refusal leaves the rows as they were.
 pub fn listing(adapter: Adapter, rows: &mut [Row]) -> u32
-    ensures { λ r. ⌜ (now (rows .exit) ≡ rowsAfter (stateOf adapter) (now (rows .entry))) × (listedOf (stateOf adapter) r (now (rows .exit)) ≡ step (stateOf adapter) (callListing (now (rows .entry)))) ⌝ }
+    ensures { λ r. ⌜ Lists (stateOf adapter) (now (rows .entry)) r (now (rows .exit)) ⌝ }
 {
     if rows.len() < 8 {
         return EINVAL;
@@ -45,7 +43,7 @@ pub fn listing(adapter: Adapter, rows: &mut [Row]) -> u32
 
 // The same of rows by value.
 fn listed_in(adapter: Adapter, rows: [Row; 8]) -> Listed
-    ensures { λ r. ⌜ (r .rows ≡ rowsAfter (stateOf adapter) rows) × (listedOf (stateOf adapter) (r .errno) (r .rows) ≡ step (stateOf adapter) (callListing rows)) ⌝ }
+    ensures { λ r. ⌜ Lists (stateOf adapter) rows (r .errno) (r .rows) ⌝ }
 {
     let mut filled = rows;
     let errno = listing(adapter, &mut filled);

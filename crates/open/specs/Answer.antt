@@ -1,4 +1,4 @@
--- The answer of the call, read as an outcome of the rules.
+-- The answer of an open, read as an outcome of the rules (document 01, "Numbers given back").
 -- Assumes nothing.
 use Prim.Native.Nat.{ℕ}
 use Rattle.parts.specs.Parts.{stateOf, orRefused}
@@ -9,6 +9,6 @@ use Rattle.rules.specs.Call.{Outcome, finish, opened}
 abbrev pub openedOf : Opened → Outcome
 openedOf r = finish (orRefused (r .errno) (opened (r .handle))) (stateOf (r .parts))
 
--- "A refusal returns its number and no other content; nothing changes" (document 01, "Numbers given back"): the whole answer of a call that is refused
+-- "A refusal returns its number and no other content; nothing changes": the whole answer
 abbrev pub refusedOpen : Parts → ℕ → Opened
 refusedOpen p errno = record { parts = p; errno = errno; handle = 0 }

@@ -1,4 +1,4 @@
--- The answer of the lookup, read as an outcome of the rules: the state is the one before it.
+-- The answer of the lookup, read as an outcome of the rules (document 01, "Numbers given back"): the state is the one before it.
 -- Assumes nothing.
 use Prim.Native.Nat.{ℕ}
 use Rattle.parts.specs.Parts.{orRefused}
@@ -9,6 +9,6 @@ use Rattle.rules.specs.State.{State}
 abbrev pub notedOf : State → Noted → Outcome
 notedOf s r = finish (orRefused (r .errno) (address (r .address))) s
 
--- "A refusal returns its number and no other content; nothing changes" (document 01, "Numbers given back"): the whole answer of a call that is refused
+-- "A refusal returns its number and no other content; nothing changes": the whole answer
 abbrev pub refusedLookup : ℕ → Noted
 refusedLookup errno = record { errno = errno; address = 0 }

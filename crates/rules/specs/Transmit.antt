@@ -78,8 +78,8 @@ senderRefusal s h later =
     (check (another isExclusiveInitiator s h) EBUSY later)))
 
 -- 3, 4, 5. "Unconfigured: allowed only .. (wake-up); otherwise ENONET. A wake-up with reply or timeout non-zero: EINVAL", 6. Then the later ones
-abbrev pub messageRefusal : State → Request → ℕ → ℕ
-messageRefusal s r later =
+abbrev pub requestRefusal : State → Request → ℕ → ℕ
+requestRefusal s r later =
     check (isMalformed r) EINVAL
     (check (isPollInvalid r) EINVAL
     (check (not (isConfigured s) && not (isWakeUp r)) ENONET
@@ -90,7 +90,7 @@ messageRefusal s r later =
 abbrev pub transmitRefusal : State → ℕ → Request → ℕ
 transmitRefusal s h r =
     senderRefusal s h
-    (messageRefusal s r
+    (requestRefusal s r
     (check (not (isSelfPoll s r) && isFull s h r) EBUSY 0))
 
 -- "timeout 0 then means 1000 ms"

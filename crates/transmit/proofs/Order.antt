@@ -6,7 +6,7 @@ use Rattle.constants.specs.Kernel.{EBADF, ENOTTY, EPERM, EBUSY, EINVAL, ENONET}
 use Rattle.rules.proofs.Checks.{Leads, leads-none, leads-check}
 use Rattle.rules.specs.Call.{Request}
 use Rattle.rules.specs.State.{State}
-use Rattle.rules.specs.Transmit.{senderRefusal, messageRefusal}
+use Rattle.rules.specs.Transmit.{senderRefusal, requestRefusal}
 
 pub sender-leads : (s : State) (h : ℕ) → Leads (senderRefusal s h)
 sender-leads s h =
@@ -15,8 +15,8 @@ sender-leads s h =
     (leads-check _ EPERM _ (omega arith)
     (leads-check _ EBUSY _ (omega arith) leads-none)))
 
-pub message-leads : (s : State) (r : Request) → Leads (messageRefusal s r)
-message-leads s r =
+pub request-leads : (s : State) (r : Request) → Leads (requestRefusal s r)
+request-leads s r =
     leads-check _ EINVAL _ (omega arith)
     (leads-check _ EINVAL _ (omega arith)
     (leads-check _ ENONET _ (omega arith)

@@ -4,7 +4,7 @@ ghost use mathlib.Core.Logic.{_≢_};
 ghost use mathlib.Core.Path.{_≡_};
 ghost use Rattle.parts.specs.Parts.{stateOf};
 ghost use Rattle.request.specs.Request.{requestOf};
-ghost use Rattle.rules.specs.Transmit.{isMisaddressed, isSelfPoll, isFull, senderRefusal, messageRefusal, transmitRefusal, transmissionOf, newRoom, doTransmit};
+ghost use Rattle.rules.specs.Transmit.{isMisaddressed, isSelfPoll, isFull, senderRefusal, requestRefusal, transmitRefusal, transmissionOf, newRoom, doTransmit};
 ghost use Rattle.transmit.specs.Transmitted.{transmittedOf, refusedTransmit};
 use constants::CEC_LOG_ADDR_UNREGISTERED;
 use constants::CEC_MODE_NO_INITIATOR;
@@ -82,9 +82,9 @@ fn sender_errno(parts: Parts, handle: u8) -> u32
     0
 }
 
-// Checks 3 to 6: whether the message may be sent.
-fn message_errno(parts: Parts, request: Request) -> u32
-    ensures { λ r. ⌜ r ≡ messageRefusal (stateOf parts) (requestOf request) 0 ⌝ }
+// Checks 3 to 6: whether the request may be sent.
+fn request_errno(parts: Parts, request: Request) -> u32
+    ensures { λ r. ⌜ r ≡ requestRefusal (stateOf parts) (requestOf request) 0 ⌝ }
 {
     if request.is_malformed() {
         return EINVAL;
@@ -113,9 +113,9 @@ fn transmit_errno(parts: Parts, handle: u8, request: Request) -> u32
     if sender != 0 {
         return sender;
     }
-    let message = message_errno(parts, request);
-    if message != 0 {
-        return message;
+    let form = request_errno(parts, request);
+    if form != 0 {
+        return form;
     }
     if !is_self_poll(parts, request) & is_full(parts, handle, request) {
         return EBUSY;

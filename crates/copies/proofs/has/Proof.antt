@@ -16,10 +16,10 @@ use Rattle.copies.proofs.has.Statement.{statement}
 use Rattle.copies.proofs.has.Tie as tie
 
 abbrev Inv-loop : tie.InvT-loop
-Inv-loop handles kind found₀ number₀ found number = (number ≤ 8) × (found ≡ any (inRole (getsCopies kind)) (take number (handlesOf handles)))
+Inv-loop handles kind found₀ h₀ found h = (h ≤ 8) × (found ≡ any (inRole (getsCopies kind)) (take h (handlesOf handles)))
 
 abbrev μ-loop : tie.MeasureT-loop
-μ-loop handles kind found₀ number₀ found number = 8 - number
+μ-loop handles kind found₀ h₀ found h = 8 - h
 
 loop-holds : tie.Need-loop-holds Inv-loop μ-loop
 loop-holds c = (omega arith, refl)
@@ -30,8 +30,8 @@ at-requires c κs = search needs
 is-copied-requires : tie.Need-is-copied-requires Inv-loop μ-loop
 is-copied-requires c κs = search needs
 
-add-number : tie.Need-add-number Inv-loop μ-loop
-add-number c = search needs
+add-h : tie.Need-add-h Inv-loop μ-loop
+add-h c = search needs
 
 loop-less : tie.Need-loop-less Inv-loop μ-loop
 loop-less c = search needs
@@ -41,14 +41,14 @@ loop-again c =
     let l = c .before .before .before .loop in
     let a = c .before .before .before .before .args in
     let long = handles-long (a .handles) _ (c .before .before .before .before .good .0) in
-    (omega arith, rw (l .inv .1, c .is-copied .ensures, c .before .at .ensures) (sym (any-more (inRole (getsCopies (a .kind))) (handlesOf (a .handles)) (l .number) closedHandle (omega arith))))
+    (omega arith, rw (l .inv .1, c .is-copied .ensures, c .before .at .ensures) (sym (any-more (inRole (getsCopies (a .kind))) (handlesOf (a .handles)) (l .h) closedHandle (omega arith))))
 
 returns : tie.Need-returns Inv-loop μ-loop
 returns c =
     let l = c .before .loop in
     let a = c .before .before .args in
     let long = handles-long (a .handles) _ (c .before .before .good .0) in
-    l .inv .1 ∙ ap (any (inRole (getsCopies (a .kind)))) (take-all (l .number) (handlesOf (a .handles)) (omega arith))
+    l .inv .1 ∙ ap (any (inRole (getsCopies (a .kind)))) (take-all (l .h) (handlesOf (a .handles)) (omega arith))
 
 pub has-spec : {M : Type 1} → statement M
 has-spec =
@@ -59,7 +59,7 @@ has-spec =
     loop-holds
     at-requires
     is-copied-requires
-    add-number
+    add-h
     loop-less
     loop-again
     returns)

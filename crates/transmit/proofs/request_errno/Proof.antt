@@ -1,9 +1,9 @@
--- `transmit::message_errno` meets its contract. Assumes nothing.
+-- `transmit::request_errno` meets its contract. Assumes nothing.
 use mathlib.Core.Path.{refl}
 use borrow.Author.Needs.{needs}
 use Rattle.rules.proofs.Checks.{stopped, onward}
-use Rattle.transmit.proofs.message_errno.Statement.{statement}
-use Rattle.transmit.proofs.message_errno.Tie as tie
+use Rattle.transmit.proofs.request_errno.Statement.{statement}
+use Rattle.transmit.proofs.request_errno.Tie as tie
 
 is-malformed-requires : tie.Need-is-malformed-requires
 is-malformed-requires c κs = search needs
@@ -78,8 +78,8 @@ returns-6 c =
     (onward _ _ _ _ (rw (wake-up .before .is-configured .ensures, silent .before .wants-reply .ensures) at (silent .if4 .left))
     (onward _ _ _ _ (rw (wake-up .before .is-configured .ensures, c .before .is-misaddressed .ensures) at (c .if5 .left)) refl))))
 
-pub message-errno-spec : {M : Type 1} → statement M
-message-errno-spec =
+pub request-errno-spec : {M : Type 1} → statement M
+request-errno-spec =
     tie.close
     (tie.spec
     is-malformed-requires
