@@ -11,7 +11,7 @@ use Rattle.rules.specs.Close.{doClose}
 use Rattle.rules.specs.Configure.{doConfigure}
 use Rattle.rules.specs.Core.{sends, answers, notes}
 use Rattle.rules.specs.Deliver.{copyTo, copies}
-use Rattle.rules.specs.FurtherAnswers.{furtherAnswers}
+use Rattle.rules.specs.FurtherAnswers.{handleAnswers, modeAnswers, transmitAnswers, roomAnswers, busAnswers, timeAnswers, configurationAnswers, messageAnswers, coreAnswers}
 use Rattle.rules.specs.Incoming.{doMessage, heard}
 use Rattle.rules.specs.KnownAnswers.{knownAnswers}
 use Rattle.rules.specs.Listing.{doListing}
@@ -31,6 +31,15 @@ pub known-answers : allGiven knownAnswers ≡ true
 unfolding message isReply matchTaken fresh roomOwed repliesWanted isTaken copyTo copies unless check doOpen doMode numberAfter doTransmit doReceive doBusStart doBusResult isFinal keptCounts doConfigure sends answers notes doMessage heard
 known-answers = refl
 
-pub further-answers : allGiven furtherAnswers ≡ true
+pub further-answers :
+    (allGiven handleAnswers ≡ true)
+    × (allGiven modeAnswers ≡ true)
+    × (allGiven transmitAnswers ≡ true)
+    × (allGiven roomAnswers ≡ true)
+    × (allGiven busAnswers ≡ true)
+    × (allGiven timeAnswers ≡ true)
+    × (allGiven configurationAnswers ≡ true)
+    × (allGiven messageAnswers ≡ true)
+    × (allGiven coreAnswers ≡ true)
 unfolding message isReply matchTaken fresh roomOwed repliesWanted isTaken copyTo copies unless check doOpen doClose doMode numberAfter doTransmit doReceive doBusStart doBusResult isFinal keptCounts doTime doConfigure doUnconfigure doListing doLookup sends answers notes doMessage heard
-further-answers = refl
+further-answers = (refl, refl, refl, refl, refl, refl, refl, refl, refl)

@@ -1,4 +1,4 @@
--- More answers, worked out by hand from document 01, as one table: the known answers that are not starred, the checks of each call, and places that can be read in two ways.
+-- More answers, worked out by hand from document 01, a table for each section: the known answers that are not starred, the checks of each call, and places that can be read in two ways.
 -- Assumes nothing.
 use Prim.Native.Nat.{ℕ, zero, suc, _-_}
 use mathlib.Core.Bool.{true, false}
@@ -56,17 +56,11 @@ out bytes = 0 ∷ length bytes ∷ bytes ++ replicate (16 - length bytes) 0
 abbrev pub got : ℕ → ℕ → ℕ → ℕ → List ℕ
 got number tx rx size = 0 ∷ number ∷ tx ∷ rx ∷ size ∷ 0 ∷ 0 ∷ 0 ∷ 0 ∷ []
 
-abbrev pub furtherAnswers : List Case
-furtherAnswers =
-    -- 16 bytes are taken, 17 are not
-    record { start = bench true; calls = callTransmit 0 (request (0x40 ∷ replicate 15 0x8F) 0x00) ∷ []; gives = 0 ∷ 1 ∷ 0 ∷ [] }
-    ∷ record { start = bench true; calls = callTransmit 0 (request (0x40 ∷ replicate 16 0x8F) 0x00) ∷ []; gives = EINVAL ∷ [] }
-    ∷ record { start = bench true; calls = sending [] 0x00 0 0 ∷ []; gives = EINVAL ∷ [] }
-    -- only flag 1
-    ∷ record { start = bench true; calls = sending (0x40 ∷ 0x8F ∷ []) 0x00 0 2 ∷ []; gives = EINVAL ∷ [] }
-    ∷ record { start = bench true; calls = sending (0x40 ∷ 0x8F ∷ []) 0x00 0 1 ∷ []; gives = 0 ∷ 1 ∷ 0 ∷ [] }
+-- handles, inboxes and the listing ("The adapter's parts")
+abbrev pub handleAnswers : List Case
+handleAnswers =
     -- handle 8, and a closed one
-    ∷ record { start = bench true; calls = plain 8 ∷ []; gives = EBADF ∷ [] }
+    record { start = bench true; calls = plain 8 ∷ []; gives = EBADF ∷ [] }
     ∷ record { start = bench true; calls = plain 1 ∷ []; gives = EBADF ∷ [] }
     ∷ record { start = bench true; calls = callClose 1 ∷ []; gives = EBADF ∷ [] }
     ∷ record { start = bench true; calls = callReceive 0 ∷ []; gives = EAGAIN ∷ [] }
@@ -74,17 +68,26 @@ furtherAnswers =
     ∷ record { start = bench true; calls = times 8 (callOpen true) []; gives = EMFILE ∷ [] }
     -- the lowest closed number
     ∷ record { start = bench true; calls = callOpen true ∷ callOpen true ∷ callClose 1 ∷ callOpen true ∷ []; gives = 0 ∷ 1 ∷ [] }
+    -- copies past the room are lost and counted, owed room included
+    ∷ record { start = bench true; calls = asking 0 ∷ callMode 0 0xF0 ∷ times 15 (incoming (0x0F ∷ 0xA0 ∷ [])) (rows 8 ∷ []); gives = 0 ∷ 0 ∷ 1 ∷ 240 ∷ 14 ∷ 2 ∷ 1 ∷ [] }
+    ∷ record { start = bench true; calls = callMode 0 0xF0 ∷ times 18 (incoming (0x0F ∷ 0xA0 ∷ [])) (rows 8 ∷ []); gives = 0 ∷ 0 ∷ 1 ∷ 240 ∷ 16 ∷ 0 ∷ 2 ∷ [] }
+    -- a closed row, and too few rows
+    ∷ record { start = bench true; calls = callClose 0 ∷ rows 8 ∷ []; gives = 0 ∷ 0 ∷ 0 ∷ 0 ∷ 0 ∷ 0 ∷ 0 ∷ [] }
+    ∷ record { start = bench true; calls = rows 7 ∷ []; gives = EINVAL ∷ [] }
+    ∷ []
+
+-- "Modes"
+abbrev pub modeAnswers : List Case
+modeAnswers =
+    -- numbers that are no mode
+    record { start = bench true; calls = callMode 0 0xD0 ∷ []; gives = EINVAL ∷ [] }
+    ∷ record { start = bench true; calls = callMode 0 0x101 ∷ []; gives = EINVAL ∷ [] }
+    ∷ record { start = bench true; calls = callMode 0 0x03 ∷ []; gives = EINVAL ∷ [] }
+    ∷ record { start = bench true; calls = callMode 0 0x00 ∷ []; gives = 0 ∷ [] }
     -- without TRANSMIT
     ∷ record { start = unable; calls = plain 0 ∷ []; gives = ENOTTY ∷ [] }
     ∷ record { start = unable; calls = callMode 0 0x11 ∷ []; gives = EINVAL ∷ [] }
     ∷ record { start = unable; calls = callMode 0 0xF0 ∷ []; gives = EINVAL ∷ [] }
-    -- without TRANSMIT the core sends nothing
-    ∷ record { start = unable; calls = incoming (0x04 ∷ 0x9F ∷ []) ∷ callBusStart ∷ []; gives = EAGAIN ∷ [] }
-    -- numbers that are no mode
-    ∷ record { start = bench true; calls = callMode 0 0xD0 ∷ []; gives = EINVAL ∷ [] }
-    ∷ record { start = bench true; calls = callMode 0 0x101 ∷ []; gives = EINVAL ∷ [] }
-    ∷ record { start = bench true; calls = callMode 0 0x03 ∷ []; gives = EINVAL ∷ [] }
-    ∷ record { start = bench true; calls = callMode 0 0x00 ∷ []; gives = 0 ∷ [] }
     -- roles held by another, and one's own
     ∷ record { start = bench true; calls = callOpen true ∷ callMode 0 0x12 ∷ callMode 1 0x02 ∷ []; gives = EBUSY ∷ [] }
     ∷ record { start = bench true; calls = callOpen true ∷ callMode 0 0x21 ∷ callMode 1 0x31 ∷ []; gives = EBUSY ∷ [] }
@@ -95,6 +98,20 @@ furtherAnswers =
     ∷ record { start = bench true; calls = callMode 0 0x02 ∷ callMode 0 0x02 ∷ []; gives = 0 ∷ [] }
     ∷ record { start = bench true; calls = callMode 0 0x31 ∷ callMode 0 0x31 ∷ []; gives = 0 ∷ [] }
     ∷ record { start = bench true; calls = callMode 0 0xE0 ∷ callMode 0 0xE0 ∷ []; gives = 0 ∷ [] }
+    -- a mode that was taken is kept
+    ∷ record { start = bench true; calls = callMode 0 0x31 ∷ rows 8 ∷ []; gives = 0 ∷ 0 ∷ 1 ∷ 49 ∷ 0 ∷ 0 ∷ 0 ∷ [] }
+    ∷ []
+
+-- "Transmit: checks in this order", 1 to 7
+abbrev pub transmitAnswers : List Case
+transmitAnswers =
+    -- 16 bytes are taken, 17 are not
+    record { start = bench true; calls = callTransmit 0 (request (0x40 ∷ replicate 15 0x8F) 0x00) ∷ []; gives = 0 ∷ 1 ∷ 0 ∷ [] }
+    ∷ record { start = bench true; calls = callTransmit 0 (request (0x40 ∷ replicate 16 0x8F) 0x00) ∷ []; gives = EINVAL ∷ [] }
+    ∷ record { start = bench true; calls = sending [] 0x00 0 0 ∷ []; gives = EINVAL ∷ [] }
+    -- only flag 1
+    ∷ record { start = bench true; calls = sending (0x40 ∷ 0x8F ∷ []) 0x00 0 2 ∷ []; gives = EINVAL ∷ [] }
+    ∷ record { start = bench true; calls = sending (0x40 ∷ 0x8F ∷ []) 0x00 0 1 ∷ []; gives = 0 ∷ 1 ∷ 0 ∷ [] }
     -- a monitor may not transmit
     ∷ record { start = bench true; calls = callMode 0 0xE0 ∷ plain 0 ∷ []; gives = EPERM ∷ [] }
     -- an exclusive initiator keeps the others out
@@ -121,14 +138,16 @@ furtherAnswers =
     ∷ record { start = unconfigured; calls = asking 0 ∷ []; gives = ENONET ∷ [] }
     -- configured, a wake-up may ask for a reply
     ∷ record { start = bench true; calls = callTransmit 0 (request (0xF0 ∷ 0x04 ∷ []) 0x90) ∷ []; gives = 0 ∷ 1 ∷ 0 ∷ [] }
+    ∷ []
+
+-- check 8, and the number
+abbrev pub roomAnswers : List Case
+roomAnswers =
+    -- a live number is skipped
+    record { start = withLast (after (bench true) (plain 0 ∷ [])) 0; calls = plain 0 ∷ []; gives = 0 ∷ 2 ∷ 0 ∷ [] }
     -- 18 queued beside one on the wire, and no 19th
     ∷ record { start = bench true; calls = callOpen true ∷ callOpen true ∷ times 10 (plain 0) (callBusStart ∷ times 9 (plain 1) []); gives = 0 ∷ 19 ∷ 0 ∷ [] }
     ∷ record { start = bench true; calls = callOpen true ∷ callOpen true ∷ times 10 (plain 0) (callBusStart ∷ times 9 (plain 1) (plain 2 ∷ [])); gives = EBUSY ∷ [] }
-    -- the core's answer may be the 18th, and then there is no 19th; with 18 queued it is dropped
-    ∷ record { start = bench true; calls = callOpen true ∷ times 16 (plain 0) (plain 1 ∷ incoming (0x04 ∷ 0x9F ∷ []) ∷ sentFirst 17 (callBusStart ∷ [])); gives = out (0x40 ∷ 0x9E ∷ 0x05 ∷ []) }
-    ∷ record { start = bench true; calls = callOpen true ∷ times 16 (plain 0) (plain 1 ∷ incoming (0x04 ∷ 0x9F ∷ []) ∷ plain 1 ∷ []); gives = EBUSY ∷ [] }
-    ∷ record { start = bench true; calls = callOpen true ∷ times 16 (plain 0) (plain 1 ∷ plain 1 ∷ incoming (0x04 ∷ 0x9F ∷ []) ∷ sentFirst 17 (callBusStart ∷ [])); gives = out (0x40 ∷ 0x8F ∷ []) }
-    ∷ record { start = bench true; calls = callOpen true ∷ times 16 (plain 0) (plain 1 ∷ plain 1 ∷ incoming (0x04 ∷ 0x9F ∷ []) ∷ sentFirst 18 (callBusStart ∷ [])); gives = EAGAIN ∷ [] }
     -- 4 wanted replies, and no 5th
     ∷ record { start = bench true; calls = times 4 (asking 0) []; gives = 0 ∷ 4 ∷ 0 ∷ [] }
     ∷ record { start = bench true; calls = times 5 (asking 0) []; gives = EBUSY ∷ [] }
@@ -139,21 +158,35 @@ furtherAnswers =
     ∷ record { start = bench true; calls = times 15 (plain 0) (asking 0 ∷ []); gives = EBUSY ∷ [] }
     -- but a poll of an own address needs none
     ∷ record { start = bench true; calls = times 16 (plain 0) (callTransmit 0 (request (0x44 ∷ []) 0x00) ∷ []); gives = 0 ∷ 17 ∷ 4 ∷ [] }
-    -- a live number is skipped
-    ∷ record { start = withLast (after (bench true) (plain 0 ∷ [])) 0; calls = plain 0 ∷ []; gives = 0 ∷ 2 ∷ 0 ∷ [] }
+    ∷ []
+
+-- "Wire, time and configuration": bus start and bus result
+abbrev pub busAnswers : List Case
+busAnswers =
     -- the bus
-    ∷ record { start = bench true; calls = callBusStart ∷ []; gives = EAGAIN ∷ [] }
+    record { start = bench true; calls = callBusStart ∷ []; gives = EAGAIN ∷ [] }
     ∷ record { start = bench true; calls = plain 0 ∷ plain 0 ∷ callBusStart ∷ callBusStart ∷ []; gives = EBUSY ∷ [] }
     ∷ record { start = bench true; calls = ok ∷ []; gives = EINVAL ∷ [] }
     ∷ record { start = bench true; calls = plain 0 ∷ callBusStart ∷ []; gives = out (0x40 ∷ 0x8F ∷ []) }
+    -- the wire taken and the queue empty
+    ∷ record { start = bench true; calls = plain 0 ∷ callBusStart ∷ callBusStart ∷ []; gives = EBUSY ∷ [] }
     -- counts whose bit is clear are 0, and a status of two ends
     ∷ record { start = bench true; calls = plain 0 ∷ callBusStart ∷ callBusResult 0x25 (record { «arb_lost» = 1; nack = 2; «low_drive» = 3; error = 4 }) ∷ []; gives = EINVAL ∷ [] }
     ∷ record { start = bench true; calls = plain 0 ∷ callBusStart ∷ callBusResult 0x26 (record { «arb_lost» = 1; nack = 2; «low_drive» = 3; error = 4 }) ∷ callReceive 0 ∷ []; gives = 0 ∷ 1 ∷ 0x26 ∷ 0 ∷ 2 ∷ 1 ∷ 2 ∷ 0 ∷ 0 ∷ [] }
     -- a result, and the copy that a monitor gets before it
     ∷ record { start = bench true; calls = plain 0 ∷ callMode 0 0xE0 ∷ callBusStart ∷ callBusResult 0x22 noCounts ∷ callReceive 0 ∷ []; gives = got 0 0x22 0x00 2 }
     ∷ record { start = bench true; calls = plain 0 ∷ callMode 0 0xE0 ∷ callBusStart ∷ callBusResult 0x22 noCounts ∷ callReceive 0 ∷ callReceive 0 ∷ []; gives = got 1 0x22 0x00 2 }
+    -- no wait without the OK bit
+    ∷ record { start = bench true; calls = asking 0 ∷ callBusStart ∷ callBusResult 0x20 noCounts ∷ callReceive 0 ∷ callTime 1000 ∷ callReceive 0 ∷ []; gives = EAGAIN ∷ [] }
+    -- with the OK bit beside another
+    ∷ record { start = bench true; calls = asking 0 ∷ callBusStart ∷ callBusResult 0x05 noCounts ∷ callReceive 0 ∷ callTime 1000 ∷ callReceive 0 ∷ []; gives = got 1 0x00 0x02 2 }
+    ∷ []
+
+-- time
+abbrev pub timeAnswers : List Case
+timeAnswers =
     -- time ends the least time left first
-    ∷ record { start = bench true; calls = sending (0x40 ∷ 0x8F ∷ []) 0x90 500 0 ∷ sending (0x40 ∷ 0x8F ∷ []) 0x90 300 0 ∷ callBusStart ∷ ok ∷ callBusStart ∷ ok ∷ callReceive 0 ∷ callReceive 0 ∷ callTime 500 ∷ callReceive 0 ∷ []; gives = got 2 0x00 0x02 2 }
+    record { start = bench true; calls = sending (0x40 ∷ 0x8F ∷ []) 0x90 500 0 ∷ sending (0x40 ∷ 0x8F ∷ []) 0x90 300 0 ∷ callBusStart ∷ ok ∷ callBusStart ∷ ok ∷ callReceive 0 ∷ callReceive 0 ∷ callTime 500 ∷ callReceive 0 ∷ []; gives = got 2 0x00 0x02 2 }
     ∷ record { start = bench true; calls = sending (0x40 ∷ 0x8F ∷ []) 0x90 500 0 ∷ sending (0x40 ∷ 0x8F ∷ []) 0x90 300 0 ∷ callBusStart ∷ ok ∷ callBusStart ∷ ok ∷ callReceive 0 ∷ callReceive 0 ∷ callTime 299 ∷ callReceive 0 ∷ []; gives = EAGAIN ∷ [] }
     ∷ record { start = bench true; calls = sending (0x40 ∷ 0x8F ∷ []) 0x90 500 0 ∷ sending (0x40 ∷ 0x8F ∷ []) 0x90 300 0 ∷ callBusStart ∷ ok ∷ callBusStart ∷ ok ∷ callReceive 0 ∷ callReceive 0 ∷ callTime 299 ∷ callTime 1 ∷ callReceive 0 ∷ []; gives = got 2 0x00 0x02 2 }
     ∷ record { start = bench true; calls = sending (0x40 ∷ 0x8F ∷ []) 0x90 500 0 ∷ sending (0x40 ∷ 0x8F ∷ []) 0x90 300 0 ∷ callBusStart ∷ ok ∷ callBusStart ∷ ok ∷ callReceive 0 ∷ callReceive 0 ∷ callTime 300 ∷ callReceive 0 ∷ callReceive 0 ∷ []; gives = EAGAIN ∷ [] }
@@ -163,12 +196,13 @@ furtherAnswers =
     -- timeout 0 is 1000 ms, from the result on
     ∷ record { start = bench true; calls = asking 0 ∷ callTime 5000 ∷ callBusStart ∷ ok ∷ callReceive 0 ∷ callTime 999 ∷ callReceive 0 ∷ []; gives = EAGAIN ∷ [] }
     ∷ record { start = bench true; calls = asking 0 ∷ callTime 5000 ∷ callBusStart ∷ ok ∷ callReceive 0 ∷ callTime 1000 ∷ callReceive 0 ∷ []; gives = got 1 0x00 0x02 2 }
-    -- no wait without the OK bit
-    ∷ record { start = bench true; calls = asking 0 ∷ callBusStart ∷ callBusResult 0x20 noCounts ∷ callReceive 0 ∷ callTime 1000 ∷ callReceive 0 ∷ []; gives = EAGAIN ∷ [] }
-    -- with the OK bit beside another
-    ∷ record { start = bench true; calls = asking 0 ∷ callBusStart ∷ callBusResult 0x05 noCounts ∷ callReceive 0 ∷ callTime 1000 ∷ callReceive 0 ∷ []; gives = got 1 0x00 0x02 2 }
+    ∷ []
+
+-- configure, unconfigure, close
+abbrev pub configurationAnswers : List Case
+configurationAnswers =
     -- unconfigure ends what is on the wire, queued and waiting
-    ∷ record { start = bench true; calls = asking 0 ∷ callBusStart ∷ ok ∷ callReceive 0 ∷ asking 0 ∷ plain 0 ∷ callBusStart ∷ callUnconfigure ∷ callReceive 0 ∷ []; gives = got 2 0x40 0x00 2 }
+    record { start = bench true; calls = asking 0 ∷ callBusStart ∷ ok ∷ callReceive 0 ∷ asking 0 ∷ plain 0 ∷ callBusStart ∷ callUnconfigure ∷ callReceive 0 ∷ []; gives = got 2 0x40 0x00 2 }
     ∷ record { start = bench true; calls = asking 0 ∷ callBusStart ∷ ok ∷ callReceive 0 ∷ asking 0 ∷ plain 0 ∷ callBusStart ∷ callUnconfigure ∷ callReceive 0 ∷ callReceive 0 ∷ []; gives = got 3 0x40 0x00 2 }
     ∷ record { start = bench true; calls = asking 0 ∷ callBusStart ∷ ok ∷ callReceive 0 ∷ asking 0 ∷ plain 0 ∷ callBusStart ∷ callUnconfigure ∷ callReceive 0 ∷ callReceive 0 ∷ callReceive 0 ∷ []; gives = got 1 0x00 0x08 2 }
     ∷ record { start = bench true; calls = asking 0 ∷ callBusStart ∷ callUnconfigure ∷ ok ∷ []; gives = EINVAL ∷ [] }
@@ -189,18 +223,55 @@ furtherAnswers =
     ∷ record { start = unconfigured; calls = setting 0x1000 0x0010 5 4 0 15 ∷ []; gives = EINVAL ∷ [] }
     ∷ record { start = unconfigured; calls = setting 0x1000 0x4444 5 4 0 1 ∷ []; gives = 0 ∷ [] }
     ∷ record { start = unconfigured; calls = setting 0x1000 0x0010 4 7 16777215 14 ∷ []; gives = 0 ∷ [] }
+    ∷ []
+
+-- "A message from the wire": copies and replies
+abbrev pub messageAnswers : List Case
+messageAnswers =
     -- from the wire too, 16 bytes are taken, 17 are not
-    ∷ record { start = bench true; calls = incoming (0x0F ∷ replicate 15 0xA0) ∷ []; gives = 0 ∷ [] }
+    record { start = bench true; calls = incoming (0x0F ∷ replicate 15 0xA0) ∷ []; gives = 0 ∷ [] }
     ∷ record { start = bench true; calls = callMode 0 0xF0 ∷ incoming (0x0F ∷ replicate 15 0xA0) ∷ callReceive 0 ∷ []; gives = got 0 0x00 0x01 16 }
     ∷ record { start = bench true; calls = incoming (0x0F ∷ replicate 16 0xA0) ∷ []; gives = EINVAL ∷ [] }
     ∷ record { start = bench true; calls = callMessage 17 (replicate 16 0) ∷ []; gives = EINVAL ∷ [] }
     ∷ record { start = bench true; calls = callMessage 0 (replicate 16 0) ∷ []; gives = EINVAL ∷ [] }
+    -- a reply is no follower's, unless the flag was set
+    ∷ record { start = bench true; calls = callOpen true ∷ callMode 1 0x11 ∷ asking 0 ∷ callBusStart ∷ ok ∷ incoming (0x04 ∷ 0x90 ∷ 0x00 ∷ []) ∷ callReceive 1 ∷ []; gives = EAGAIN ∷ [] }
+    ∷ record { start = bench true; calls = callOpen true ∷ callMode 1 0x11 ∷ sending (0x40 ∷ 0x8F ∷ []) 0x90 0 1 ∷ callBusStart ∷ ok ∷ incoming (0x04 ∷ 0x90 ∷ 0x00 ∷ []) ∷ callReceive 1 ∷ []; gives = got 0 0x00 0x01 3 }
+    -- the oldest match alone
+    ∷ record { start = bench true; calls = callOpen true ∷ callMode 1 0x11 ∷ asking 0 ∷ asking 1 ∷ callBusStart ∷ ok ∷ callBusStart ∷ ok ∷ callReceive 0 ∷ callReceive 1 ∷ incoming (0x04 ∷ 0x90 ∷ 0x00 ∷ []) ∷ callReceive 1 ∷ []; gives = EAGAIN ∷ [] }
+    ∷ record { start = bench true; calls = callOpen true ∷ callMode 1 0x11 ∷ asking 0 ∷ asking 1 ∷ callBusStart ∷ ok ∷ callBusStart ∷ ok ∷ callReceive 0 ∷ callReceive 1 ∷ incoming (0x04 ∷ 0x90 ∷ 0x00 ∷ []) ∷ incoming (0x04 ∷ 0x90 ∷ 0x00 ∷ []) ∷ callReceive 1 ∷ []; gives = got 2 0x00 0x01 3 }
+    -- the exclusive follower alone
+    ∷ record { start = bench true; calls = callOpen true ∷ callMode 0 0x11 ∷ callMode 1 0x21 ∷ incoming (0x04 ∷ 0xA0 ∷ []) ∷ callReceive 0 ∷ []; gives = EAGAIN ∷ [] }
+    ∷ record { start = bench true; calls = callOpen true ∷ callMode 0 0x11 ∷ callMode 1 0x21 ∷ incoming (0x04 ∷ 0xA0 ∷ []) ∷ callReceive 1 ∷ []; gives = got 0 0x00 0x01 2 }
+    -- monitors
+    ∷ record { start = bench true; calls = callMode 0 0xE0 ∷ incoming (0x05 ∷ 0xA0 ∷ []) ∷ callReceive 0 ∷ []; gives = EAGAIN ∷ [] }
+    ∷ record { start = bench true; calls = callMode 0 0xF0 ∷ incoming (0x05 ∷ 0xA0 ∷ []) ∷ callReceive 0 ∷ []; gives = got 0 0x00 0x01 2 }
+    ∷ record { start = bench true; calls = callMode 0 0xE0 ∷ incoming (0x05 ∷ 0xA0 ∷ []) ∷ incoming (0x0F ∷ 0xA0 ∷ []) ∷ callReceive 0 ∷ []; gives = got 0 0x00 0x01 2 }
+    ∷ record { start = unconfigured; calls = callMode 0 0xE0 ∷ incoming (0x04 ∷ 0xA0 ∷ []) ∷ callReceive 0 ∷ []; gives = EAGAIN ∷ [] }
+    -- the ARC pair: 0xC0 sent, one report wanted, the other came
+    ∷ record { start = bench true; calls = callTransmit 0 (request (0x40 ∷ 0xC0 ∷ []) 0xC1) ∷ callBusStart ∷ ok ∷ callReceive 0 ∷ incoming (0x04 ∷ 0xC2 ∷ []) ∷ callReceive 0 ∷ []; gives = got 1 0x00 0x01 2 }
+    ∷ record { start = bench true; calls = callTransmit 0 (request (0x40 ∷ 0xC3 ∷ []) 0xC1) ∷ callBusStart ∷ ok ∷ callReceive 0 ∷ incoming (0x04 ∷ 0xC2 ∷ []) ∷ callReceive 0 ∷ []; gives = EAGAIN ∷ [] }
+    -- a follower that lost its copy is a follower: no Feature Abort
+    ∷ record { start = bench true; calls = callMode 0 0x11 ∷ times 17 (incoming (0x04 ∷ 0xA0 ∷ [])) (callBusStart ∷ []); gives = EAGAIN ∷ [] }
+    ∷ record { start = bench true; calls = callMode 0 0x11 ∷ times 17 (incoming (0x04 ∷ 0xA0 ∷ [])) (rows 8 ∷ []); gives = 0 ∷ 0 ∷ 1 ∷ 17 ∷ 16 ∷ 0 ∷ 1 ∷ [] }
+    ∷ []
+
+-- core work and Feature Abort
+abbrev pub coreAnswers : List Case
+coreAnswers =
     -- the core answers
-    ∷ record { start = bench true; calls = incoming (0x04 ∷ 0x9F ∷ []) ∷ callBusStart ∷ []; gives = out (0x40 ∷ 0x9E ∷ 0x05 ∷ []) }
+    record { start = bench true; calls = incoming (0x04 ∷ 0x9F ∷ []) ∷ callBusStart ∷ []; gives = out (0x40 ∷ 0x9E ∷ 0x05 ∷ []) }
     ∷ record { start = bench true; calls = incoming (0x04 ∷ 0x8C ∷ []) ∷ callBusStart ∷ []; gives = out (0x4F ∷ 0x87 ∷ 0x00 ∷ 0xA0 ∷ 0xB0 ∷ []) }
     ∷ record { start = bench true; calls = incoming (0x04 ∷ 0x83 ∷ []) ∷ callBusStart ∷ []; gives = out (0x4F ∷ 0x84 ∷ 0x10 ∷ 0x00 ∷ 0x04 ∷ []) }
     ∷ record { start = bench true; calls = incoming (0x04 ∷ 0x46 ∷ []) ∷ callBusStart ∷ []; gives = out (0x40 ∷ 0x47 ∷ 0x42 ∷ []) }
     ∷ record { start = bench true; calls = incoming (0x04 ∷ 0xFF ∷ []) ∷ callBusStart ∷ []; gives = out (0x40 ∷ 0x00 ∷ 0xFF ∷ 0x04 ∷ []) }
+    -- without TRANSMIT the core sends nothing
+    ∷ record { start = unable; calls = incoming (0x04 ∷ 0x9F ∷ []) ∷ callBusStart ∷ []; gives = EAGAIN ∷ [] }
+    -- the core's answer may be the 18th, and then there is no 19th; with 18 queued it is dropped
+    ∷ record { start = bench true; calls = callOpen true ∷ times 16 (plain 0) (plain 1 ∷ incoming (0x04 ∷ 0x9F ∷ []) ∷ sentFirst 17 (callBusStart ∷ [])); gives = out (0x40 ∷ 0x9E ∷ 0x05 ∷ []) }
+    ∷ record { start = bench true; calls = callOpen true ∷ times 16 (plain 0) (plain 1 ∷ incoming (0x04 ∷ 0x9F ∷ []) ∷ plain 1 ∷ []); gives = EBUSY ∷ [] }
+    ∷ record { start = bench true; calls = callOpen true ∷ times 16 (plain 0) (plain 1 ∷ plain 1 ∷ incoming (0x04 ∷ 0x9F ∷ []) ∷ sentFirst 17 (callBusStart ∷ [])); gives = out (0x40 ∷ 0x8F ∷ []) }
+    ∷ record { start = bench true; calls = callOpen true ∷ times 16 (plain 0) (plain 1 ∷ plain 1 ∷ incoming (0x04 ∷ 0x9F ∷ []) ∷ sentFirst 18 (callBusStart ∷ [])); gives = EAGAIN ∷ [] }
     -- and not to 15, from 15, to others or to a poll
     ∷ record { start = bench true; calls = incoming (0x0F ∷ 0x9F ∷ []) ∷ callBusStart ∷ []; gives = EAGAIN ∷ [] }
     ∷ record { start = bench true; calls = incoming (0xF4 ∷ 0x9F ∷ []) ∷ callBusStart ∷ []; gives = EAGAIN ∷ [] }
@@ -224,38 +295,8 @@ furtherAnswers =
     ∷ record { start = bench true; calls = incoming (0x04 ∷ 0x84 ∷ 0x20 ∷ 0x00 ∷ []) ∷ callBusStart ∷ []; gives = out (0x40 ∷ 0x00 ∷ 0x84 ∷ 0x00 ∷ []) }
     ∷ record { start = bench true; calls = callLookup 15 ∷ []; gives = EINVAL ∷ [] }
     ∷ record { start = bench true; calls = incoming (0x0F ∷ 0x84 ∷ 0x20 ∷ 0x00 ∷ 0x04 ∷ []) ∷ callUnconfigure ∷ callLookup 0 ∷ []; gives = 0 ∷ 65535 ∷ [] }
-    -- a reply is no follower's, unless the flag was set
-    ∷ record { start = bench true; calls = callOpen true ∷ callMode 1 0x11 ∷ asking 0 ∷ callBusStart ∷ ok ∷ incoming (0x04 ∷ 0x90 ∷ 0x00 ∷ []) ∷ callReceive 1 ∷ []; gives = EAGAIN ∷ [] }
-    ∷ record { start = bench true; calls = callOpen true ∷ callMode 1 0x11 ∷ sending (0x40 ∷ 0x8F ∷ []) 0x90 0 1 ∷ callBusStart ∷ ok ∷ incoming (0x04 ∷ 0x90 ∷ 0x00 ∷ []) ∷ callReceive 1 ∷ []; gives = got 0 0x00 0x01 3 }
-    -- the oldest match alone
-    ∷ record { start = bench true; calls = callOpen true ∷ callMode 1 0x11 ∷ asking 0 ∷ asking 1 ∷ callBusStart ∷ ok ∷ callBusStart ∷ ok ∷ callReceive 0 ∷ callReceive 1 ∷ incoming (0x04 ∷ 0x90 ∷ 0x00 ∷ []) ∷ callReceive 1 ∷ []; gives = EAGAIN ∷ [] }
-    ∷ record { start = bench true; calls = callOpen true ∷ callMode 1 0x11 ∷ asking 0 ∷ asking 1 ∷ callBusStart ∷ ok ∷ callBusStart ∷ ok ∷ callReceive 0 ∷ callReceive 1 ∷ incoming (0x04 ∷ 0x90 ∷ 0x00 ∷ []) ∷ incoming (0x04 ∷ 0x90 ∷ 0x00 ∷ []) ∷ callReceive 1 ∷ []; gives = got 2 0x00 0x01 3 }
-    -- the exclusive follower alone
-    ∷ record { start = bench true; calls = callOpen true ∷ callMode 0 0x11 ∷ callMode 1 0x21 ∷ incoming (0x04 ∷ 0xA0 ∷ []) ∷ callReceive 0 ∷ []; gives = EAGAIN ∷ [] }
-    ∷ record { start = bench true; calls = callOpen true ∷ callMode 0 0x11 ∷ callMode 1 0x21 ∷ incoming (0x04 ∷ 0xA0 ∷ []) ∷ callReceive 1 ∷ []; gives = got 0 0x00 0x01 2 }
-    -- monitors
-    ∷ record { start = bench true; calls = callMode 0 0xE0 ∷ incoming (0x05 ∷ 0xA0 ∷ []) ∷ callReceive 0 ∷ []; gives = EAGAIN ∷ [] }
-    ∷ record { start = bench true; calls = callMode 0 0xF0 ∷ incoming (0x05 ∷ 0xA0 ∷ []) ∷ callReceive 0 ∷ []; gives = got 0 0x00 0x01 2 }
-    ∷ record { start = bench true; calls = callMode 0 0xE0 ∷ incoming (0x05 ∷ 0xA0 ∷ []) ∷ incoming (0x0F ∷ 0xA0 ∷ []) ∷ callReceive 0 ∷ []; gives = got 0 0x00 0x01 2 }
-    ∷ record { start = unconfigured; calls = callMode 0 0xE0 ∷ incoming (0x04 ∷ 0xA0 ∷ []) ∷ callReceive 0 ∷ []; gives = EAGAIN ∷ [] }
-    -- copies past the room are lost and counted, owed room included
-    ∷ record { start = bench true; calls = asking 0 ∷ callMode 0 0xF0 ∷ times 15 (incoming (0x0F ∷ 0xA0 ∷ [])) (rows 8 ∷ []); gives = 0 ∷ 0 ∷ 1 ∷ 240 ∷ 14 ∷ 2 ∷ 1 ∷ [] }
-    ∷ record { start = bench true; calls = callMode 0 0xF0 ∷ times 18 (incoming (0x0F ∷ 0xA0 ∷ [])) (rows 8 ∷ []); gives = 0 ∷ 0 ∷ 1 ∷ 240 ∷ 16 ∷ 0 ∷ 2 ∷ [] }
-    -- a closed row, and too few rows
-    ∷ record { start = bench true; calls = callClose 0 ∷ rows 8 ∷ []; gives = 0 ∷ 0 ∷ 0 ∷ 0 ∷ 0 ∷ 0 ∷ 0 ∷ [] }
-    ∷ record { start = bench true; calls = rows 7 ∷ []; gives = EINVAL ∷ [] }
-    -- the wire taken and the queue empty
-    ∷ record { start = bench true; calls = plain 0 ∷ callBusStart ∷ callBusStart ∷ []; gives = EBUSY ∷ [] }
-    -- the ARC pair: 0xC0 sent, one report wanted, the other came
-    ∷ record { start = bench true; calls = callTransmit 0 (request (0x40 ∷ 0xC0 ∷ []) 0xC1) ∷ callBusStart ∷ ok ∷ callReceive 0 ∷ incoming (0x04 ∷ 0xC2 ∷ []) ∷ callReceive 0 ∷ []; gives = got 1 0x00 0x01 2 }
-    ∷ record { start = bench true; calls = callTransmit 0 (request (0x40 ∷ 0xC3 ∷ []) 0xC1) ∷ callBusStart ∷ ok ∷ callReceive 0 ∷ incoming (0x04 ∷ 0xC2 ∷ []) ∷ callReceive 0 ∷ []; gives = EAGAIN ∷ [] }
     -- a reply that is a question too: delivered, answered, not copied even with the flag
     ∷ record { start = bench true; calls = callOpen true ∷ callMode 1 0x11 ∷ sending (0x40 ∷ 0x9F ∷ []) 0x9F 0 1 ∷ callBusStart ∷ ok ∷ callReceive 0 ∷ incoming (0x04 ∷ 0x9F ∷ []) ∷ callReceive 0 ∷ []; gives = got 1 0x00 0x01 2 }
     ∷ record { start = bench true; calls = callOpen true ∷ callMode 1 0x11 ∷ sending (0x40 ∷ 0x9F ∷ []) 0x9F 0 1 ∷ callBusStart ∷ ok ∷ callReceive 0 ∷ incoming (0x04 ∷ 0x9F ∷ []) ∷ callReceive 1 ∷ []; gives = EAGAIN ∷ [] }
     ∷ record { start = bench true; calls = callOpen true ∷ callMode 1 0x11 ∷ sending (0x40 ∷ 0x9F ∷ []) 0x9F 0 1 ∷ callBusStart ∷ ok ∷ callReceive 0 ∷ incoming (0x04 ∷ 0x9F ∷ []) ∷ callBusStart ∷ []; gives = out (0x40 ∷ 0x9E ∷ 0x05 ∷ []) }
-    -- a follower that lost its copy is a follower: no Feature Abort
-    ∷ record { start = bench true; calls = callMode 0 0x11 ∷ times 17 (incoming (0x04 ∷ 0xA0 ∷ [])) (callBusStart ∷ []); gives = EAGAIN ∷ [] }
-    ∷ record { start = bench true; calls = callMode 0 0x11 ∷ times 17 (incoming (0x04 ∷ 0xA0 ∷ [])) (rows 8 ∷ []); gives = 0 ∷ 0 ∷ 1 ∷ 17 ∷ 16 ∷ 0 ∷ 1 ∷ [] }
-    -- a mode that was taken is kept
-    ∷ record { start = bench true; calls = callMode 0 0x31 ∷ rows 8 ∷ []; gives = 0 ∷ 0 ∷ 1 ∷ 49 ∷ 0 ∷ 0 ∷ 0 ∷ [] }
     ∷ []
