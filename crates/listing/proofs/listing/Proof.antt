@@ -2,15 +2,13 @@
 -- A turn calls `row_at`, takes one row out of the slice, stores to it, and puts it back; the invariant is that the first i rows are the adapter's, and the others as they were.
 -- Assumes nothing.
 use Prim.Native.Nat.{ℕ, _+_, _-_, _*_, _≤_, _<_, _^_, zero-le}
-use mathlib.Core.Bool.{not}
 use mathlib.Core.List.{[], _∷_, List}
 use mathlib.Core.Path.{_≡_, refl, sym, ap, subst}
 use mathlib.Core.WellFounded.{WellFounded, InvImage·wf}
-use native.Mathlib.Nat.{le-antisymm}
 use native.Mathlib.Numerals.{add-one-le, add-one-dec}
 use native.Mathlib.Omega.{arith}
 use lib.Dec as dec
-use lib.Dec.{ltb, ltb→lt, nltb→le, lit<}
+use lib.Dec.{ltb→lt, nltb→le, lit<}
 use lib.ListN.{length}
 use lib.WfN.{Nat·lt-wfRel}
 use denote.Builtin.{u32, usize}
@@ -173,15 +171,15 @@ module _ {M : Type 1} (𝓤 : URA M) (H : Heap 𝓤) (A : Atoms 𝓤) (W : Given
       abbrev Turned : Upto → Out → SProp 𝓤
       Turned i = afterTurn 𝓤 H (Below 𝓤 H A Nearer At i) (afterBlock 𝓤 H (afterSeq 𝓤 H (Wp 𝓤 H C Λ En mirs.t-6 (atReturn 𝓤 H En Post)) (atReturn 𝓤 H En Post)))
 
-      turns : dec.T (not (ltb (length ys) 8)) → (i : Upto) → Sq W (At i) (runs C Λ En mirs.turn-1 (anyQ (Turned i)))
+      turns : 8 ≤ length ys → (i : Upto) → Sq W (At i) (runs C Λ En mirs.turn-1 (anyQ (Turned i)))
       unfolding afterTurn
-      turns enough i =
+      turns eight i =
           -- [the rows; the open borrow; obs; auth; _9; …; _8; …; _7; …; _6; …; _5; …; _4; …; _3; …; _2; …; _1; …; room for _0; …]
           assigns ! (bin ! (load ! (from ! (stop !)) (look ! 16 refl)) (lit ! tt) tt) (from ! (stop !)) (init ! 10 refl (tt, tt)) $
           first ! $ branches ! (load ! (from ! (stop !)) (look ! 10 refl))
-          (λ less. skips ! $ exec ! C Λ En (after (after mirs.turn-1)) (anyQ (Turned i)) $
+          (λ less. let small : i .0 < 8 = omega (arith, ltb→lt (i .0) _ less) in skips ! $ exec ! C Λ En (after (after mirs.turn-1)) (anyQ (Turned i)) $
           -- `row_at`
-          use0 W (raw (RowAt 𝓤 H A at-mem run .pre (to-row (i .0)))) (goes-row (i .0) (ltb→lt (i .0) 8 less)) $
+          use0 W (raw (RowAt 𝓤 H A at-mem run .pre (to-row (i .0)))) (goes-row (i .0) small) $
           calls-at ! (fmOf 𝓤 H (W .laws) 𝓣) (RowAt 𝓤 H A at-mem run) known (to-row (i .0)) (and-then ! (load ! (from ! (stop !)) (look ! 21 refl)) (and-then ! (load ! (from ! (stop !)) (look ! 17 refl)) (no-more !))) (λ v.
           use1 W (later (some (λ (r : Row). (‵ ftrue ⊛ ‵ (T.the-row .own r (v ∷ []))) ⊛ raw (ensured 𝓤 H A row-at.ended (row-at.clauses 𝓤 H A at-mem run) tt (ad, (i .0, tt)) tt r)))) (id⊢ 𝓤 _) $ await ! tt $ pick ! (λ r.
           split ! $ move ! (1 ∷ []) $ use1 W (raw (fact 𝓤 (r ≡ rowIn ad (i .0)))) (row-at-says 𝓤 H A at-mem run ad (i .0) r) $ heard ! (r ≡ rowIn ad (i .0)) (λ e. split ! $ drop ! $
@@ -191,27 +189,24 @@ module _ {M : Type 1} (𝓤 : URA M) (H : Heap 𝓤) (A : Atoms 𝓤) (W : Given
           assigns ! (bin ! (load ! (from ! (stop !)) (look ! 17 refl)) (lit ! tt) (record { fits = far i })) (from ! (stop !)) (init ! 7 refl (tt, record { fits = far i })) $
           assigns ! (bin ! (load ! (from ! (fld ! refl (stop !))) (look-in ! 19 (sub ! 0 refl (whole !)))) (load ! (from ! (stop !)) (look ! 7 refl)) tt) (from ! (stop !)) (init ! 5 refl (tt, tt)) $
           rewrite ! 5 (λ (p : ℕ). ‵ (fat fullShare tyPtr l₉ 0 (vptr b p))) (sym (place-is 20 o (i .0))) refl $
-          move ! (1 ∷ []) $ elem-out ! T.the-row (Is T.the-row) (shows 𝓤 H A T.the-row) (LL.vals T.the-type T′.the-laws) (LL.tells T.the-type T′.the-laws) fullShare (written ad (i .0) ys) (i .0) (rowIn ad (i .0)) b o (within i less) (λ _.
+          move ! (1 ∷ []) $ elem-out ! T.the-row (Is T.the-row) (shows 𝓤 H A T.the-row) (LL.vals T.the-type T′.the-laws) (LL.tells T.the-type T′.the-laws) fullShare (written ad (i .0) ys) (i .0) (rowIn ad (i .0)) b o (within i small) (λ _.
           -- [rows[i]; what it owns; the others; what the new row owns; the open borrow; obs; auth; _9; …; _8; …; _7; …]
           assigns ! (of-opd ! (load ! (from ! (stop !)) (look ! 11 refl))) (from ! (hop ! (look ! 7 refl) (stop !))) (store-raw ! 0 refl (typed i v is)) $
-          move ! (1 ∷ []) $ drop ! $ move ! (0 ∷ 2 ∷ 1 ∷ []) $ elem-put ! T.the-row fullShare (written ad (i .0) ys) (i .0) (rowIn ad (i .0)) (v ∷ []) b o (within i less) $
-          rewrite ! 0 (λ (l : List Row). ‵ (row T.the-row fullShare l b o)) (written-next ad (i .0) ys (inside i less)) refl $
-          assigns-last ! (bin ! (load ! (from ! (stop !)) (look ! 16 refl)) (lit ! tt) (record { fits = fits (next less) })) (from ! (stop !)) (store ! 16 refl (tt, record { fits = fits (next less) })) $
-          forget ! 4 refl $ forget ! 6 refl $ forget ! 8 refl $ forget ! 10 refl $ again ! Nearer At i (next less) (add-one-dec 8 (i .0) (ltb→lt (i .0) 8 less))))))))
-          (λ over. jumps ! $ exec ! C Λ En mirs.t-6 (atRet En Post) $
+          move ! (1 ∷ []) $ drop ! $ move ! (0 ∷ 2 ∷ 1 ∷ []) $ elem-put ! T.the-row fullShare (written ad (i .0) ys) (i .0) (rowIn ad (i .0)) (v ∷ []) b o (within i small) $
+          rewrite ! 0 (λ (l : List Row). ‵ (row T.the-row fullShare l b o)) (written-next ad (i .0) ys (inside i small)) refl $
+          assigns-last ! (bin ! (load ! (from ! (stop !)) (look ! 16 refl)) (lit ! tt) (record { fits = fits (next small) })) (from ! (stop !)) (store ! 16 refl (tt, record { fits = fits (next small) })) $
+          forget ! 4 refl $ forget ! 6 refl $ forget ! 8 refl $ forget ! 10 refl $ again ! Nearer At i (next small) (add-one-dec 8 (i .0) small)))))))
+          (λ over. let last : 8 ≡ i .0 = omega (arith, nltb→le (i .0) _ over, i .1) in jumps ! $ exec ! C Λ En mirs.t-6 (atRet En Post) $
           closes-slice ! tt T.the-row ys (written ad (i .0) ys) (long i) b o $
           -- [obs; the borrow; the token; _9; …; _8; …; _7; …; _6; …; _5; …; _4; …; _3; …; _2; …; _1; …; room for _0; …]
           assigns ! (of-opd ! (lit ! tt)) (from ! (stop !)) (init ! 21 refl (tt, record { fits = lit< tt })) $
           returns ! (look ! 21 refl) $ forget ! 9 refl $ forget ! 15 refl $ forget ! 17 refl $ forget ! 19 refl $ forget ! 21 refl $
           move ! (21 ∷ 22 ∷ []) $ free1 ! $ move ! (19 ∷ 20 ∷ []) $ free1 ! $ move ! (17 ∷ 18 ∷ []) $ free1 ! $ move ! (15 ∷ 16 ∷ []) $ free1 ! $ move ! (13 ∷ 14 ∷ []) $ free1 ! $
           move ! (11 ∷ 12 ∷ []) $ free1 ! $ move ! (9 ∷ 10 ∷ []) $ free1 ! $ move ! (7 ∷ 8 ∷ []) $ free1 ! $ move ! (5 ∷ 6 ∷ []) $ free1 ! $ move ! (3 ∷ 4 ∷ []) $ free1 ! $ free0 ! $
-          by ! (exits 0 (written ad (i .0) ys) (lit< tt) (long i) (subst (λ (k : ℕ). Says ad ys 0 (written ad k ys)) (le-antisymm (nltb→le (i .0) 8 over) (i .1)) (full-says ad ys eight))))
+          by ! (exits 0 (written ad (i .0) ys) (lit< tt) (long i) (subst (λ (k : ℕ). Says ad ys 0 (written ad k ys)) last (full-says ad ys eight))))
         where
-          eight : 8 ≤ length ys
-          eight = nltb→le (length ys) 8 enough
-
-          next : dec.T (ltb (i .0) 8) → Upto
-          next less = (i .0 + 1, add-one-le (ltb→lt (i .0) 8 less))
+          next : i .0 < 8 → Upto
+          next small = (i .0 + 1, add-one-le small)
 
           fits : (j : Upto) → j .0 < 2 ^ 64
           fits j = omega (arith, j .1)
@@ -222,11 +217,11 @@ module _ {M : Type 1} (𝓤 : URA M) (H : Heap 𝓤) (A : Atoms 𝓤) (W : Given
           long : (j : Upto) → length (written ad (j .0) ys) ≡ length ys
           long j = length-written ad (j .0) ys (omega (arith, j .1, eight))
 
-          inside : (j : Upto) → dec.T (ltb (j .0) 8) → j .0 < length ys
-          inside j less = omega (arith, ltb→lt (j .0) 8 less, eight)
+          inside : (j : Upto) → j .0 < 8 → j .0 < length ys
+          inside j small = omega (arith, small, eight)
 
-          within : (j : Upto) → dec.T (ltb (j .0) 8) → j .0 < length (written ad (j .0) ys)
-          within j less = subst (λ (k : ℕ). j .0 < k) (sym (long j)) (inside j less)
+          within : (j : Upto) → j .0 < 8 → j .0 < length (written ad (j .0) ys)
+          within j small = subst (λ (k : ℕ). j .0 < k) (sym (long j)) (inside j small)
 
           typed : (j : Upto) (v : Val) → Is T.the-row (rowIn ad (j .0)) (v ∷ []) → dec.T (hasTy T′.mir v) × WT v
           typed j v is = LL.lawful T.the-type T′.the-laws 𝓤 H A W .typed (rowIn ad (j .0)) (v ∷ []) is .0
@@ -246,10 +241,10 @@ module _ {M : Type 1} (𝓤 : URA M) (H : Heap 𝓤) (A : Atoms 𝓤) (W : Given
           returns-within ! Post refl (look ! 21 refl) $ forget ! 11 refl $ forget ! 13 refl $ forget ! 17 refl $ forget ! 19 refl $ forget ! 21 refl $
           move ! (21 ∷ 22 ∷ []) $ free1 ! $ move ! (19 ∷ 20 ∷ []) $ free1 ! $ move ! (17 ∷ 18 ∷ []) $ free1 ! $ move ! (15 ∷ 16 ∷ []) $ free1 ! $ move ! (13 ∷ 14 ∷ []) $ free1 ! $
           move ! (11 ∷ 12 ∷ []) $ free1 ! $ move ! (9 ∷ 10 ∷ []) $ free1 ! $ move ! (7 ∷ 8 ∷ []) $ free1 ! $ move ! (5 ∷ 6 ∷ []) $ free1 ! $ move ! (3 ∷ 4 ∷ []) $ free1 ! $ free0 ! $
-          by ! (exits EINVAL ys (lit< tt) refl (short-says ad ys (ltb→lt (length ys) 8 short))))
-          (λ enough. skips ! $ exec ! C Λ En mirs.t-4 (atRet En Post) $
+          by ! (exits EINVAL ys (lit< tt) refl (short-says ad ys (omega (arith, ltb→lt (length ys) _ short)))))
+          (λ enough. let eight : 8 ≤ length ys = omega (arith, nltb→le (length ys) _ enough) in skips ! $ exec ! C Λ En mirs.t-4 (atRet En Post) $
           assigns ! (of-opd ! (lit ! tt)) (from ! (stop !)) (init ! 15 refl (tt, record { fits = lit< tt })) $ forget ! 11 refl $ forget ! 13 refl $
-          opens-slice ! tt T.the-row ys b o $ first ! $ blocks ! $ loops ! 𝓣 Nearer Nearer-wf At (turns enough) (0, zero-le))
+          opens-slice ! tt T.the-row ys b o $ first ! $ blocks ! $ loops ! 𝓣 Nearer Nearer-wf At (turns eight) (0, zero-le))
 
     walk : (𝓣 : Tables 𝓤 H) → Triple 𝓤 (𝓣 .C row-at-def.name) (RowAt 𝓤 H A at-mem run)
         → ent 𝓤 (onEntry 𝓤 H A listing.signature (κ, tt) (q, tt) a vals) (WpFn 𝓤 H (𝓣 .C) (𝓣 .Λ) code.function (mach ∷ s ∷ []) Post)
