@@ -125,7 +125,7 @@ NO_PADDING(cec_open_answer, BYTES(cec_open_answer, error) + BYTES(cec_open_answe
 SIZES(cec_after_transmit, adapter_Transmitted);
 SAME_STRUCT(cec_after_transmit, adapter_Transmitted, adapter);
 NUMBERS(cec_after_transmit, answer.error, adapter_Transmitted, error);
-NUMBERS(cec_after_transmit, answer.sequence, adapter_Transmitted, number);
+NUMBERS(cec_after_transmit, answer.sequence, adapter_Transmitted, sequence);
 NUMBERS(cec_after_transmit, answer.tx_status, adapter_Transmitted, tx_status);
 NO_PADDING(cec_transmit_answer, BYTES(cec_transmit_answer, error) + BYTES(cec_transmit_answer, sequence)
                                     + BYTES(cec_transmit_answer, tx_status) + BYTES(cec_transmit_answer, reserved));

@@ -32,7 +32,7 @@ pub refused-open : (a : Adapter) (r : open-answer.Opened) → r ≡ open-parts.r
 refused-open a r q = ap ofOpened q
 
 abbrev ofTransmitted : transmit-answer.Transmitted → Transmitted
-ofTransmitted r = record { adapter = record { parts = r .parts }; errno = r .errno; number = r .number; «tx_status» = r .«tx_status» }
+ofTransmitted r = record { adapter = record { parts = r .parts }; errno = r .errno; sequence = r .sequence; «tx_status» = r .«tx_status» }
 
 pub refused-transmit : (a : Adapter) (r : transmit-answer.Transmitted) → r ≡ transmit-parts.refusedTransmit (a .parts) (r .errno) → ofTransmitted r ≡ refusedTransmit a (r .errno)
 refused-transmit a r q = ap ofTransmitted q

@@ -24,7 +24,7 @@ abbrev pub openedOf : Opened → Outcome
 openedOf r = finish (orRefused (r .errno) (opened (r .handle))) (stateOf (r .adapter))
 
 abbrev pub transmittedOf : Transmitted → Outcome
-transmittedOf r = finish (orRefused (r .errno) (accepted (r .number) (r .«tx_status»))) (stateOf (r .adapter))
+transmittedOf r = finish (orRefused (r .errno) (accepted (r .sequence) (r .«tx_status»))) (stateOf (r .adapter))
 
 abbrev pub receivedOf : Received → Outcome
 receivedOf r = finish (orRefused (r .errno) (received (r .entry))) (stateOf (r .adapter))
@@ -40,7 +40,7 @@ abbrev pub refusedOpen : Adapter → ℕ → Opened
 refusedOpen a errno = record { adapter = a; errno = errno; handle = 0 }
 
 abbrev pub refusedTransmit : Adapter → ℕ → Transmitted
-refusedTransmit a errno = record { adapter = a; errno = errno; number = 0; «tx_status» = 0 }
+refusedTransmit a errno = record { adapter = a; errno = errno; sequence = 0; «tx_status» = 0 }
 
 abbrev pub refusedReceive : Adapter → ℕ → Received
 refusedReceive a errno = record { adapter = a; errno = errno; entry = noEntry }

@@ -40,7 +40,7 @@ pub struct Opened {
 pub struct Transmitted {
     pub adapter: Adapter,
     pub errno: u32,
-    pub number: u32,
+    pub sequence: u32,
     pub tx_status: u8,
 }
 
@@ -93,7 +93,7 @@ impl Adapter {
         }
     }
 
-    pub fn mode(self, handle: u8, mode: u32) -> Done
+    pub fn set_mode(self, handle: u8, mode: u32) -> Done
         ensures { λ r. ⌜ doneOf r ≡ step (stateOf self) (callMode handle mode) ⌝ }
         ensures { λ r. ⌜ (r .errno ≢ 0 → r ≡ refusedCall self (r .errno)) ⌝ }
     {
@@ -114,7 +114,7 @@ impl Adapter {
         Transmitted {
             adapter: Adapter { parts: parts },
             errno: sent.errno,
-            number: sent.number,
+            sequence: sent.sequence,
             tx_status: sent.tx_status,
         }
     }
@@ -160,7 +160,7 @@ impl Adapter {
     }
 
     // A message came from the wire.
-    pub fn message(self, length: u8, bytes: [u8; 16]) -> Done
+    pub fn received(self, length: u8, bytes: [u8; 16]) -> Done
         ensures { λ r. ⌜ doneOf r ≡ step (stateOf self) (callMessage length bytes) ⌝ }
         ensures { λ r. ⌜ (r .errno ≢ 0 → r ≡ refusedCall self (r .errno)) ⌝ }
     {
@@ -173,7 +173,7 @@ impl Adapter {
     }
 
     // Milliseconds passed.
-    pub fn time(self, ms: u32) -> Done
+    pub fn time_passed(self, ms: u32) -> Done
         ensures { λ r. ⌜ doneOf r ≡ step (stateOf self) (callTime ms) ⌝ }
     {
         let passed = time::time(self.parts, ms);

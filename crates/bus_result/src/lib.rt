@@ -1,4 +1,4 @@
-// Bus result.
+// The end of the transmission on the wire.
 ghost use mathlib.Core.Logic.{_≢_};
 ghost use mathlib.Core.Path.{_≡_};
 ghost use Rattle.parts.specs.Parts.{stateOf, doneOf};
@@ -10,10 +10,10 @@ use constants::EINVAL;
 use copies::MONITORS;
 use entry::Counts;
 use entry::Entry;
+use inbox::count_at;
 use parts::Done;
 use parts::Parts;
 use parts::check;
-use parts::count_at;
 use transmission::Transmission;
 use wait::Wait;
 
@@ -23,14 +23,13 @@ fn bus_result_errno(parts: Parts, status: u8) -> u32
     check(!((0 < parts.wire.count()) & is_final(status)), EINVAL, 0)
 }
 
-// The wait for the reply to a transmission.
 fn wait_for(sent: Transmission) -> Wait
     ensures { λ r. ⌜ r ≡ waitFor sent ⌝ }
 {
     let message = sent.message;
     Wait {
         owner: sent.owner,
-        number: sent.number,
+        sequence: sent.sequence,
         left: sent.timeout,
         reply: sent.reply,
         to_followers: sent.to_followers,
@@ -52,11 +51,10 @@ pub fn bus_result(mut parts: Parts, status: u8, counts: Counts) -> Done
         if copies::has(handles, MONITORS) {
             parts = copies::copies(parts, MONITORS, Entry::result_copy(status, kept, message));
         }
-        let filled = parts.counts;
-        let n = count_at(filled, sent.owner);
+        let n = count_at(parts.counts, sent.owner);
         let h = sent.owner as usize;
         if (h < 8) & (n < 16) {
-            parts.entries[16 * h + n] = Entry::result(sent.number, status, kept, message);
+            parts.entries[16 * h + n] = Entry::result(sent.sequence, status, kept, message);
             parts.counts[h] = n + 1;
         }
         parts.wire = parts.wire.without_head();

@@ -8,7 +8,7 @@ use Rattle.entry.specs.declared.Entry.{Entry}
 use Rattle.handle.specs.declared.Handle.{Handle}
 use Rattle.inbox.specs.Inboxes.{cleared}
 use Rattle.rules.specs.Close.{closed}
-use Rattle.rules.specs.State.{State, closedHandle, withInboxes}
+use Rattle.rules.specs.State.{State, closedHandle, withHandles, withInboxes, withQueue, withWire, withWaits}
 use Rattle.transmission.specs.Transmission.{orphaned}
 use Rattle.transmission.specs.declared.Transmission.{Transmission}
 use Rattle.wait.specs.declared.Wait.{Wait}
@@ -22,6 +22,6 @@ pub closed-parts : (s u : State) (h : ℕ) (is : List (List Entry)) (hs : List H
     → wire ≡ map (orphaned h) (s .wire)
     → waits ≡ withoutHandle h (s .waits)
     → _≡_ {A = State}
-    (record { capabilities = u .capabilities; handles = hs; inboxes = u .inboxes; queue = queue; wire = wire; waits = waits; last = u .last; settings = u .settings; noted = u .noted })
+    (withHandles (withQueue (withWire (withWaits u waits) wire) queue) hs)
     (closed s h)
 closed-parts s u h is hs queue wire waits a b c d e f = rw (a, b, c, d, e, f)

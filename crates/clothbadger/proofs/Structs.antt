@@ -70,7 +70,8 @@ entry = (λ d. refl, (refl, (refl, refl)))
 request : HasLayout Request.struct Request′.mir (λ d. (d .length, (d .bytes, (d .reply, (d .timeout, (d .flags, tt)))))) (0 ∷ 1 ∷ 17 ∷ 20 ∷ 24 ∷ []) 28 4
 request = (λ d. refl, (refl, (refl, refl)))
 
-settings : HasLayout Settings.struct Settings′.mir (λ d. (d .«physical_address», (d .mask, (d .version, (d .«device_type», (d .«vendor_id», (d .«name_length», (d .name, tt)))))))) (0 ∷ 2 ∷ 4 ∷ 5 ∷ 8 ∷ 12 ∷ 13 ∷ []) 28 4
+settings : HasLayout Settings.struct Settings′.mir
+    (λ d. (d .«physical_address», (d .mask, (d .version, (d .«device_type», (d .«vendor_id», (d .«name_length», (d .name, tt)))))))) (0 ∷ 2 ∷ 4 ∷ 5 ∷ 8 ∷ 12 ∷ 13 ∷ []) 28 4
 settings = (λ d. refl, (refl, (refl, refl)))
 
 row : HasLayout Row.struct Row′.mir (λ d. (d .number, (d .«is_open», (d .mode, (d .entries, (d .owed, (d .lost, tt))))))) (0 ∷ 1 ∷ 4 ∷ 8 ∷ 12 ∷ 16 ∷ []) 20 4
@@ -85,7 +86,7 @@ done = (λ d. refl, (refl, (refl, refl)))
 opened : HasLayout Opened.struct Opened′.mir (λ d. (d .adapter, (d .errno, (d .handle, tt)))) (0 ∷ 5472 ∷ 5476 ∷ []) 5480 8
 opened = (λ d. refl, (refl, (refl, refl)))
 
-transmitted : HasLayout Transmitted.struct Transmitted′.mir (λ d. (d .adapter, (d .errno, (d .number, (d .«tx_status», tt))))) (0 ∷ 5472 ∷ 5476 ∷ 5480 ∷ []) 5488 8
+transmitted : HasLayout Transmitted.struct Transmitted′.mir (λ d. (d .adapter, (d .errno, (d .sequence, (d .«tx_status», tt))))) (0 ∷ 5472 ∷ 5476 ∷ 5480 ∷ []) 5488 8
 transmitted = (λ d. refl, (refl, (refl, refl)))
 
 received : HasLayout Received.struct Received′.mir (λ d. (d .adapter, (d .errno, (d .entry, tt)))) (0 ∷ 5472 ∷ 5476 ∷ []) 5504 8

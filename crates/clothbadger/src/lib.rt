@@ -61,7 +61,7 @@ pub extern "C" fn cec_adapter_set_mode(adapter: Adapter, handle: u8, mode: u32) 
     ensures { λ r. ⌜ doneOf r ≡ step (stateOf adapter) (callMode handle mode) ⌝ }
     ensures { λ r. ⌜ (r .errno ≢ 0 → r ≡ refusedCall adapter (r .errno)) ⌝ }
 {
-    adapter.mode(handle, mode)
+    adapter.set_mode(handle, mode)
 }
 
 #[no_mangle]
@@ -108,7 +108,7 @@ pub extern "C" fn cec_adapter_received(adapter: Adapter, message: Message) -> Do
 {
     let length = message.length();
     let bytes = message.bytes();
-    adapter.message(length, bytes)
+    adapter.received(length, bytes)
 }
 
 // Milliseconds passed.
@@ -116,7 +116,7 @@ pub extern "C" fn cec_adapter_received(adapter: Adapter, message: Message) -> Do
 pub extern "C" fn cec_adapter_time_passed(adapter: Adapter, ms: u32) -> Done
     ensures { λ r. ⌜ doneOf r ≡ step (stateOf adapter) (callTime ms) ⌝ }
 {
-    adapter.time(ms)
+    adapter.time_passed(ms)
 }
 
 #[no_mangle]

@@ -3,46 +3,41 @@
 use Prim.Native.Nat.{ℕ, zero, suc, _+_, _<_}
 use mathlib.Core.Bool.{Bool, true, false, cond, _||_}
 use mathlib.Core.List.{List, [], _∷_, _++_}
+use mathlib.Core.Logic.{_≢_}
 use mathlib.Core.Path.{_≡_, refl}
 use native.Mathlib.Numerals.{add-one}
 use native.Mathlib.Omega.{arith}
 use lib.ListN.{getD, length, set, take}
 use lib.Seq.{take-suc}
 use borrow.Author.Tests.{eq-eqb, ne-eqb}
-use Rattle.copies.specs.Kinds.{getsCopies}
+use Rattle.copies.specs.Kinds.{getsCopies, NOBODY}
 use Rattle.entry.specs.declared.Entry.{Entry}
 use Rattle.handle.specs.declared.Handle.{Handle}
-use Rattle.inbox.specs.Inboxes.{delivered}
 use Rattle.lists.specs.Sums.{any, any-append}
 use Rattle.lists.specs.Tests.{and-false, neither, or-false}
-use Rattle.rules.specs.Deliver.{copies, copyTo, each, handleNumbers, loses}
+use Rattle.rules.specs.Deliver.{copies, copyTo, deliver, each, handleNumbers, loses, copyToBy, copiesBy}
+use Rattle.rules.specs.Derived.{roomTaken}
 use Rattle.rules.specs.Handles.{handleAt, inRole}
-use Rattle.rules.specs.Owed.{roomTaken}
-use Rattle.rules.specs.State.{State, closedHandle, withHandles, withInboxes}
-
-copy-lost : (e : Entry) (s : State) (h : ℕ) (hs : List Handle) → roomTaken s h ≡ 16 → hs ≡ set (s .handles) h (loses (handleAt s h)) → withHandles s hs ≡ copyTo e s h
-unfolding copyTo
-copy-lost e s h hs r q = rw (eq-eqb (roomTaken s h) 16 r, q)
-
-copy-kept : (e : Entry) (s : State) (h : ℕ) (is : List (List Entry)) → (roomTaken s h ≡ 16 → ⊥) → is ≡ delivered (s .inboxes) h e → withInboxes s is ≡ copyTo e s h
-unfolding copyTo
-copy-kept e s h is r q = rw (ne-eqb (roomTaken s h) 16 r, q)
+use Rattle.rules.specs.State.{State, closedHandle, withHandles}
 
 -- one turn of the copies
 abbrev pub copyIf : ℕ → Entry → State → ℕ → State
 copyIf kind e t h = cond (inRole (getsCopies kind) (handleAt t h)) (copyTo e t h) t
 
-pub turn-lost : (kind : ℕ) (e : Entry) (s : State) (h : ℕ) (hs : List Handle) → inRole (getsCopies kind) (handleAt s h) ≡ true → roomTaken s h ≡ 16 → hs ≡ set (s .handles) h (loses (handleAt s h)) → withHandles s hs ≡ copyIf kind e s h
-turn-lost kind e s h hs c r q = rw c (copy-lost e s h hs r q)
+module _ (kind : ℕ) (e : Entry) (s : State) (h : ℕ) where
+  pub turn-lost : (hs : List Handle) → inRole (getsCopies kind) (handleAt s h) ≡ true → roomTaken s h ≡ 16 → hs ≡ set (s .handles) h (loses (handleAt s h))
+      → withHandles s hs ≡ copyIf kind e s h
+  unfolding copyToBy
+  turn-lost hs c r q = rw (c, eq-eqb (roomTaken s h) 16 r, q)
 
-pub turn-kept : (kind : ℕ) (e : Entry) (s : State) (h : ℕ) (is : List (List Entry)) → inRole (getsCopies kind) (handleAt s h) ≡ true → (roomTaken s h ≡ 16 → ⊥) → is ≡ delivered (s .inboxes) h e → withInboxes s is ≡ copyIf kind e s h
-turn-kept kind e s h is c r q = rw c (copy-kept e s h is r q)
+  pub turn-kept : inRole (getsCopies kind) (handleAt s h) ≡ true → roomTaken s h ≢ 16 → deliver s h e ≡ copyIf kind e s h
+  unfolding copyToBy
+  turn-kept c r = rw (c, ne-eqb (roomTaken s h) 16 r)
 
-pub turn-none : (kind : ℕ) (e : Entry) (s : State) (h : ℕ) → inRole (getsCopies kind) (handleAt s h) ≡ false → s ≡ copyIf kind e s h
-turn-none kind e s h c = rw c
+  pub turn-none : inRole (getsCopies kind) (handleAt s h) ≡ false → s ≡ copyIf kind e s h
+  turn-none c = rw c
 
--- kind 4 is nobody
-pub nobody : (kind : ℕ) (x : Handle) → kind ≡ 4 → inRole (getsCopies kind) x ≡ false
+pub nobody : (kind : ℕ) (x : Handle) → kind ≡ NOBODY → inRole (getsCopies kind) x ≡ false
 nobody kind x e = rw e (and-false (x .«is_open»))
 
 each-last : (f : State → ℕ → State) (s : State) (xs : List ℕ) (x : ℕ) → each f s (xs ++ (x ∷ [])) ≡ f (each f s xs) x
@@ -79,5 +74,5 @@ each-none p e s c n [] = refl
 each-none p e s c n (h ∷ hs) = rw (any-one p (s .handles) h closedHandle c n) (each-none p e s c n hs)
 
 pub copies-none : (p : Handle → Bool) (e : Entry) (s : State) → p closedHandle ≡ false → any p (s .handles) ≡ false → s ≡ copies p e s
-unfolding copies
+unfolding copiesBy
 copies-none p e s c n = each-none p e s c n handleNumbers

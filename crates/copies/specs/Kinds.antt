@@ -6,9 +6,24 @@ use lib.Dec.{eqb}
 use Rattle.constants.specs.Kernel.{CEC-MODE-FOLLOWER, CEC-MODE-MONITOR-ALL}
 use Rattle.rules.specs.Handles.{followerPart, isExclusiveFollower, isMonitor}
 
--- 0: every monitor; 1: those that see all; 2: the exclusive follower; 3: the 0x10 handles; any other: nobody
+abbrev pub MONITORS : ℕ
+MONITORS = 0
+
+abbrev pub MONITORS-OF-ALL : ℕ
+MONITORS-OF-ALL = 1
+
+abbrev pub EXCLUSIVE-FOLLOWER : ℕ
+EXCLUSIVE-FOLLOWER = 2
+
+abbrev pub FOLLOWERS : ℕ
+FOLLOWERS = 3
+
+abbrev pub NOBODY : ℕ
+NOBODY = 4
+
+-- whether a handle of a mode is of a kind; any other number is nobody's
 abbrev pub getsCopies : ℕ → ℕ → Bool
 getsCopies kind mode =
-    cond (eqb kind 0) (isMonitor mode)
-    (cond (eqb kind 1) (isMonitor mode && eqb (followerPart mode) CEC-MODE-MONITOR-ALL)
-    (cond (eqb kind 2) (isExclusiveFollower mode) (eqb kind 3 && eqb (followerPart mode) CEC-MODE-FOLLOWER)))
+    cond (eqb kind MONITORS) (isMonitor mode)
+    (cond (eqb kind MONITORS-OF-ALL) (isMonitor mode && eqb (followerPart mode) CEC-MODE-MONITOR-ALL)
+    (cond (eqb kind EXCLUSIVE-FOLLOWER) (isExclusiveFollower mode) (eqb kind FOLLOWERS && eqb (followerPart mode) CEC-MODE-FOLLOWER)))

@@ -1,7 +1,7 @@
-// Copies for monitors and followers.
+// Copies for monitors and followers, of messages and of results.
 ghost use Prim.Native.Nat.{_+_, min};
 ghost use mathlib.Core.Path.{_≡_};
-ghost use Rattle.copies.specs.Kinds.{getsCopies};
+ghost use Rattle.copies.specs.Kinds.{getsCopies, NOBODY};
 ghost use Rattle.handles.specs.Roles.{handlesOf};
 ghost use Rattle.lists.specs.Sums.{any};
 ghost use Rattle.parts.specs.Parts.{stateOf};
@@ -15,8 +15,8 @@ use handles::Handles;
 use handles::mode::follower_part;
 use handles::mode::is_exclusive_follower;
 use handles::mode::is_monitor;
+use inbox::count_at;
 use parts::Parts;
-use parts::count_at;
 
 // Who gets copies.
 pub const MONITORS: u8 = 0;
@@ -55,7 +55,6 @@ fn raised(lost: u32) -> u32
     }
 }
 
-// A handle with one more lost.
 fn loses(mut handle: Handle) -> Handle
     ensures { λ r. ⌜ r ≡ loses handle ⌝ }
 {
@@ -72,19 +71,18 @@ fn is_copied(kind: u8, handle: Handle) -> bool
 // Copies for all handles of a kind, ascending: one that has no room left loses its copy.
 pub fn copies(mut parts: Parts, kind: u8, entry: Entry) -> Parts
     ensures { λ r. ⌜ stateOf r ≡ copies (inRole (getsCopies kind)) entry (stateOf parts) ⌝ }
-    ensures { λ r. ⌜ (kind ≡ 4 → r ≡ parts) ⌝ }
+    ensures { λ r. ⌜ (kind ≡ NOBODY → r ≡ parts) ⌝ }
 {
     let mut handle: u8 = 0;
     while handle < 8 {
-        let x = parts.handles.at(handle);
-        if is_copied(kind, x) {
-            let counts = parts.counts;
-            let n = count_at(counts, handle);
+        let own = parts.handles.at(handle);
+        if is_copied(kind, own) {
+            let n = count_at(parts.counts, handle);
+            let h = handle as usize;
             let owed = traffic::owed(parts.queue, parts.wire, parts.waits, handle);
             if n + owed.room == 16 {
-                parts.handles = parts.handles.with(handle, loses(x));
-            } else if n < 16 {
-                let h = handle as usize;
+                parts.handles = parts.handles.with(handle, loses(own));
+            } else if (h < 8) & (n < 16) {
                 parts.entries[16 * h + n] = entry;
                 parts.counts[h] = n + 1;
             }

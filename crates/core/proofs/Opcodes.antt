@@ -4,7 +4,8 @@ use Prim.Native.Nat.{ℕ}
 use mathlib.Core.Bool.{false}
 use mathlib.Core.Path.{_≡_}
 use borrow.Author.Tests.{ne-eqb}
-use Rattle.constants.specs.Kernel.{CEC-MSG-GET-CEC-VERSION, CEC-MSG-GIVE-DEVICE-VENDOR-ID, CEC-MSG-GIVE-PHYSICAL-ADDR, CEC-MSG-GIVE-OSD-NAME, CEC-MSG-ABORT, CEC-MSG-REPORT-PHYSICAL-ADDR, CEC-OP-ABORT-REFUSED}
+use Rattle.constants.specs.Kernel.{CEC-MSG-ABORT, CEC-MSG-GET-CEC-VERSION, CEC-MSG-GIVE-DEVICE-VENDOR-ID, CEC-MSG-GIVE-OSD-NAME, CEC-MSG-GIVE-PHYSICAL-ADDR}
+use Rattle.constants.specs.Kernel.{CEC-MSG-REPORT-PHYSICAL-ADDR, CEC-OP-ABORT-REFUSED}
 use Rattle.core.specs.Work.{messageOf, abortOf, workOf}
 use Rattle.core.specs.declared.Work.{Work}
 use Rattle.message.specs.Message.{opcode}
@@ -22,4 +23,5 @@ pub no-core-message : (x : Settings) (m : Message) (code : ℕ)
     → (code ≡ CEC-MSG-REPORT-PHYSICAL-ADDR → ⊥)
     → _≡_ {A = Work} (record { «is_question» = false; «is_report» = false; answer = messageOf (abortOf m CEC-OP-ABORT-REFUSED) }) (workOf x m)
 no-core-message x m code q a b c d e f =
-    rw (← q, ne-eqb code CEC-MSG-GET-CEC-VERSION a, ne-eqb code CEC-MSG-GIVE-DEVICE-VENDOR-ID b, ne-eqb code CEC-MSG-GIVE-PHYSICAL-ADDR c, ne-eqb code CEC-MSG-GIVE-OSD-NAME d, ne-eqb code CEC-MSG-ABORT e, ne-eqb code CEC-MSG-REPORT-PHYSICAL-ADDR f)
+    rw (← q, ne-eqb code CEC-MSG-GET-CEC-VERSION a, ne-eqb code CEC-MSG-GIVE-DEVICE-VENDOR-ID b, ne-eqb code CEC-MSG-GIVE-PHYSICAL-ADDR c)
+    (rw (ne-eqb code CEC-MSG-GIVE-OSD-NAME d, ne-eqb code CEC-MSG-ABORT e, ne-eqb code CEC-MSG-REPORT-PHYSICAL-ADDR f))

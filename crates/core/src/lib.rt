@@ -1,5 +1,4 @@
 // What the core answers to a message, byte for byte.
-ghost use Prim.Native.Nat.{_≤_, min};
 ghost use mathlib.Core.Bool.{true, false};
 ghost use mathlib.Core.Path.{_≡_};
 ghost use Rattle.core.specs.Work.{messageOf, abortOf, workOf};
@@ -90,37 +89,32 @@ fn address_answer(settings: Settings, asked: Message) -> Message
     Message::new(5, bytes)
 }
 
-// A name's length, at most 14.
-fn at_most_14(length: u8) -> u8
-    ensures { λ r. ⌜ r ≡ min length 14 ⌝ }
-    ensures { λ r. ⌜ r ≤ 14 ⌝ }
-{
-    if length < 14 { length } else { 14 }
-}
-
 fn name_answer(settings: Settings, asked: Message) -> Message
     ensures { λ r. ⌜ r ≡ messageOf (nameAnswer settings (destination (asked .bytes)) (initiator (asked .bytes))) ⌝ }
 {
-    let x = settings.name;
+    let name = settings.name;
     let bytes = [
         to_initiator(asked),
         CEC_MSG_SET_OSD_NAME,
-        x[0],
-        x[1],
-        x[2],
-        x[3],
-        x[4],
-        x[5],
-        x[6],
-        x[7],
-        x[8],
-        x[9],
-        x[10],
-        x[11],
-        x[12],
-        x[13],
+        name[0],
+        name[1],
+        name[2],
+        name[3],
+        name[4],
+        name[5],
+        name[6],
+        name[7],
+        name[8],
+        name[9],
+        name[10],
+        name[11],
+        name[12],
+        name[13],
     ];
-    Message::new(at_most_14(settings.name_length) + 2, bytes)
+    Message::new(
+        lists::at_most(settings.name_length as usize, 14) as u8 + 2,
+        bytes,
+    )
 }
 
 fn question(answer: Message) -> Work

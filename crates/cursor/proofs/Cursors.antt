@@ -29,12 +29,6 @@ no-body (suc (suc (suc (suc (suc (suc (suc (suc (suc (suc zero)))))))))) n1 n2 n
 no-body (suc (suc (suc (suc (suc (suc (suc (suc (suc (suc (suc zero))))))))))) n1 n2 n3 n4 n5 n7 n8 n9 n10 = refl
 no-body (suc (suc (suc (suc (suc (suc (suc (suc (suc (suc (suc (suc k)))))))))))) n1 n2 n3 n4 n5 n7 n8 n9 n10 = refl
 
-pub within-28 : (n : ℕ) → n < 28 → n ≡ atMost28 n
-within-28 n h = rw (lt-ltb n 28 h)
-
-pub over-28 : (n : ℕ) → 28 ≤ n → 28 ≡ atMost28 n
-over-28 n h = rw (le-ltb n 28 h)
-
 module _ (c : Cursor) (kind count : ℕ) (b : Bool) (n : ℕ) (p : b ≡ isBad c kind) (q : n ≡ bodyLength kind) where
   pub not-called : (b || leb count n) ≡ true → 0 ≡ callNumber c kind count
   unfolding callNumber

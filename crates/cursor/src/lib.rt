@@ -37,13 +37,6 @@ pub fn body_length(kind: u8) -> usize
     }
 }
 
-fn at_most_28(n: usize) -> usize
-    ensures { λ r. ⌜ r ≡ atMost28 n ⌝ }
-    ensures { λ r. ⌜ r ≤ 28 ⌝ }
-{
-    if n < 28 { n } else { 28 }
-}
-
 impl Cursor {
     pub fn fresh() -> Cursor
         ensures { λ r. ⌜ r ≡ record { count = 0; place = 0; ended = false } ⌝ }
@@ -55,15 +48,15 @@ impl Cursor {
         }
     }
 
-    // How many bytes of the record have come.
+    // How many bytes of the record are held. No record is longer than 28, so a count over that stands for 28.
     pub fn held(self) -> usize
         ensures { λ r. ⌜ r ≡ atMost28 (self .count) ⌝ }
         ensures { λ r. ⌜ r ≤ 28 ⌝ }
     {
-        at_most_28(self.count)
+        lists::at_most(self.count, 28)
     }
 
-    // The kind of the record is unknown.
+    // Only the first byte of a record is read as a kind: one of which bytes are held is not bad.
     fn is_bad(self, kind: u8) -> bool
         ensures { λ r. ⌜ r ≡ isBad self kind ⌝ }
     {
@@ -78,6 +71,8 @@ impl Cursor {
         if self.is_bad(kind) | (count <= body_length(kind)) {
             return 0;
         }
+        // No log leads to a record of an unknown kind, of which bytes are held: the kind ends the log as it comes. `callOf` takes
+        // what is no other kind for the last one, and so does this.
         if is_kind(kind) { kind } else { 11 }
     }
 
@@ -92,7 +87,7 @@ impl Cursor {
             };
         }
         if body_length(kind) < count {
-            let place = std::num::wrapping_add_u64(self.place, at_most_28(count) as u64);
+            let place = std::num::wrapping_add_u64(self.place, lists::at_most(count, 28) as u64);
             return Cursor {
                 count: 0,
                 place: place,

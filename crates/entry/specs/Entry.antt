@@ -12,35 +12,34 @@ noCounts = record { «arb_lost» = 0; nack = 0; «low_drive» = 0; error = 0 }
 
 -- "A result shows the status, the kept counts, and the sent length and bytes", under the transmit's number
 abbrev pub result : ℕ → ℕ → Counts → Message → Entry
-result number status counts sent = record { sequence = number; «tx_status» = status; «rx_status» = 0; message = sent; counts = counts }
+result sequence status counts sent = record { sequence = sequence; «tx_status» = status; «rx_status» = 0; message = sent; counts = counts }
 
 -- "each monitor, ascending, gets a copy (sequence 0)"
 abbrev pub resultCopy : ℕ → Counts → Message → Entry
 resultCopy status counts sent = result 0 status counts sent
 
 -- an entry that shows a receive status and a message alone
-abbrev pub received : ℕ → ℕ → Message → Entry
-received number status m = record { sequence = number; «tx_status» = 0; «rx_status» = status; message = m; counts = noCounts }
+abbrev pub rxEntry : ℕ → ℕ → Message → Entry
+rxEntry sequence status m = record { sequence = sequence; «tx_status» = 0; «rx_status» = status; message = m; counts = noCounts }
 
 -- "its handle gets the message under that number, rx_status 0x01, or 0x05 for Feature Abort"
 abbrev pub reply : ℕ → Message → Entry
-reply number came = received number CEC-RX-STATUS-OK came
+reply sequence came = rxEntry sequence CEC-RX-STATUS-OK came
 
 abbrev pub featureAbortReply : ℕ → Message → Entry
-featureAbortReply number came = received number (CEC-RX-STATUS-OK + CEC-RX-STATUS-FEATURE-ABORT) came
+featureAbortReply sequence came = rxEntry sequence (CEC-RX-STATUS-OK + CEC-RX-STATUS-FEATURE-ABORT) came
 
 -- "an entry of its number, rx_status 0x02, and the sent length and bytes"
 abbrev pub timedOut : ℕ → Message → Entry
-timedOut number sent = received number CEC-RX-STATUS-TIMEOUT sent
+timedOut sequence sent = rxEntry sequence CEC-RX-STATUS-TIMEOUT sent
 
 -- "with their number, rx_status 0x08, and the sent length and bytes"
 abbrev pub aborted : ℕ → Message → Entry
-aborted number sent = received number CEC-RX-STATUS-ABORTED sent
+aborted sequence sent = rxEntry sequence CEC-RX-STATUS-ABORTED sent
 
 -- the copy of a message, for a monitor or a follower: "rx_status 0x01, sequence 0"
 abbrev pub messageCopy : Message → Entry
-messageCopy m = received 0 CEC-RX-STATUS-OK m
+messageCopy m = rxEntry 0 CEC-RX-STATUS-OK m
 
--- where there is none
 abbrev pub noEntry : Entry
-noEntry = received 0 0 noMessage
+noEntry = rxEntry 0 0 noMessage

@@ -1,6 +1,6 @@
 // An entry of an inbox, one constructor for each kind.
 ghost use mathlib.Core.Path.{_≡_};
-ghost use Rattle.entry.specs.Entry.{noCounts, result, resultCopy, received, reply, featureAbortReply, timedOut, aborted, messageCopy, noEntry};
+ghost use Rattle.entry.specs.Entry.{noCounts, result, resultCopy, rxEntry, reply, featureAbortReply, timedOut, aborted, messageCopy, noEntry};
 use constants::CEC_RX_STATUS_ABORTED;
 use constants::CEC_RX_STATUS_FEATURE_ABORT;
 use constants::CEC_RX_STATUS_OK;
@@ -40,11 +40,11 @@ impl Counts {
 
 impl Entry {
     // The result of a transmit, for its owner.
-    pub fn result(number: u32, status: u8, counts: Counts, sent: Message) -> Entry
-        ensures { λ r. ⌜ r ≡ result number status counts sent ⌝ }
+    pub fn result(sequence: u32, status: u8, counts: Counts, sent: Message) -> Entry
+        ensures { λ r. ⌜ r ≡ result sequence status counts sent ⌝ }
     {
         Entry {
-            sequence: number,
+            sequence: sequence,
             tx_status: status,
             rx_status: 0,
             message: sent,
@@ -60,11 +60,11 @@ impl Entry {
     }
 
     // A receive status and a message alone.
-    fn received(number: u32, status: u8, message: Message) -> Entry
-        ensures { λ r. ⌜ r ≡ received number status message ⌝ }
+    fn rx_entry(sequence: u32, status: u8, message: Message) -> Entry
+        ensures { λ r. ⌜ r ≡ rxEntry sequence status message ⌝ }
     {
         Entry {
-            sequence: number,
+            sequence: sequence,
             tx_status: 0,
             rx_status: status,
             message: message,
@@ -72,45 +72,46 @@ impl Entry {
         }
     }
 
-    // The reply to a transmit.
-    pub fn reply(number: u32, came: Message) -> Entry
-        ensures { λ r. ⌜ r ≡ reply number came ⌝ }
+    pub fn reply(sequence: u32, came: Message) -> Entry
+        ensures { λ r. ⌜ r ≡ reply sequence came ⌝ }
     {
-        Entry::received(number, CEC_RX_STATUS_OK, came)
+        Entry::rx_entry(sequence, CEC_RX_STATUS_OK, came)
     }
 
-    // The reply to a transmit, where it is a Feature Abort.
-    pub fn feature_abort_reply(number: u32, came: Message) -> Entry
-        ensures { λ r. ⌜ r ≡ featureAbortReply number came ⌝ }
+    pub fn feature_abort_reply(sequence: u32, came: Message) -> Entry
+        ensures { λ r. ⌜ r ≡ featureAbortReply sequence came ⌝ }
     {
-        Entry::received(number, CEC_RX_STATUS_OK + CEC_RX_STATUS_FEATURE_ABORT, came)
+        Entry::rx_entry(
+            sequence,
+            CEC_RX_STATUS_OK + CEC_RX_STATUS_FEATURE_ABORT,
+            came,
+        )
     }
 
     // No reply came in time.
-    pub fn timed_out(number: u32, sent: Message) -> Entry
-        ensures { λ r. ⌜ r ≡ timedOut number sent ⌝ }
+    pub fn timed_out(sequence: u32, sent: Message) -> Entry
+        ensures { λ r. ⌜ r ≡ timedOut sequence sent ⌝ }
     {
-        Entry::received(number, CEC_RX_STATUS_TIMEOUT, sent)
+        Entry::rx_entry(sequence, CEC_RX_STATUS_TIMEOUT, sent)
     }
 
     // The wait for a reply was given up.
-    pub fn aborted(number: u32, sent: Message) -> Entry
-        ensures { λ r. ⌜ r ≡ aborted number sent ⌝ }
+    pub fn aborted(sequence: u32, sent: Message) -> Entry
+        ensures { λ r. ⌜ r ≡ aborted sequence sent ⌝ }
     {
-        Entry::received(number, CEC_RX_STATUS_ABORTED, sent)
+        Entry::rx_entry(sequence, CEC_RX_STATUS_ABORTED, sent)
     }
 
     // The copy of a message, for a follower or a monitor.
     pub fn message_copy(came: Message) -> Entry
         ensures { λ r. ⌜ r ≡ messageCopy came ⌝ }
     {
-        Entry::received(0, CEC_RX_STATUS_OK, came)
+        Entry::rx_entry(0, CEC_RX_STATUS_OK, came)
     }
 
-    // Where there is none.
     pub fn none() -> Entry
         ensures { λ r. ⌜ r ≡ noEntry ⌝ }
     {
-        Entry::received(0, 0, Message::new(0, [0; 16]))
+        Entry::rx_entry(0, 0, Message::new(0, [0; 16]))
     }
 }

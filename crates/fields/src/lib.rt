@@ -1,9 +1,9 @@
 // The fields of a record's 28 bytes. Numbers are low byte first.
+ghost use Prim.Native.Nat.{_+_, _≤_};
 ghost use mathlib.Core.Path.{_≡_};
 ghost use mathlib.Core.List.{[], _∷_};
-ghost use lib.ListN.{take, drop};
-ghost use Rattle.log.specs.Record.{numberAt};
-ghost use Rattle.fields.specs.Fields.{requestIn, countsIn, settingsIn};
+ghost use lib.ListN.{length, take, drop};
+ghost use Rattle.log.specs.Record.{numberAt, requestIn, countsIn, settingsIn};
 ghost use Rattle.request.specs.Request.{requestOf};
 use entry::Counts;
 use request::Request;
@@ -27,72 +27,41 @@ pub fn number_4(b0: u8, b1: u8, b2: u8, b3: u8) -> u32
     b0 as u32 + 256 * (b1 as u32 + 256 * (b2 as u32 + 256 * b3 as u32))
 }
 
-// The 16 bytes after a length: from place 2 on in a message, from place 3 on in a transmit.
-pub fn bytes_at_2(r: [u8; 28]) -> [u8; 16]
-    ensures { λ b. ⌜ b ≡ take 16 (drop 2 r) ⌝ }
+// Fills an array with bytes from a place on.
+fn copy(r: [u8; 28], at: usize, to: &mut [u8])
+    requires { ⌜ at + length (now to) ≤ 28 ⌝ }
+    ensures { λ _. ⌜ now (to .exit) ≡ take (length (now (to .entry))) (drop at r) ⌝ }
 {
-    [
-        r[2],
-        r[3],
-        r[4],
-        r[5],
-        r[6],
-        r[7],
-        r[8],
-        r[9],
-        r[10],
-        r[11],
-        r[12],
-        r[13],
-        r[14],
-        r[15],
-        r[16],
-        r[17],
-    ]
+    let mut i = 0;
+    while i < to.len() {
+        to[i] = r[at + i];
+        i += 1;
+    }
 }
 
-fn bytes_at_3(r: [u8; 28]) -> [u8; 16]
+// The 16 bytes after a length: from place 2 on in a message, from place 3 on in a transmit.
+pub fn message_bytes(r: [u8; 28]) -> [u8; 16]
+    ensures { λ b. ⌜ b ≡ take 16 (drop 2 r) ⌝ }
+{
+    let mut bytes = [0; 16];
+    copy(r, 2, &mut bytes);
+    bytes
+}
+
+fn request_bytes(r: [u8; 28]) -> [u8; 16]
     ensures { λ b. ⌜ b ≡ take 16 (drop 3 r) ⌝ }
 {
-    [
-        r[3],
-        r[4],
-        r[5],
-        r[6],
-        r[7],
-        r[8],
-        r[9],
-        r[10],
-        r[11],
-        r[12],
-        r[13],
-        r[14],
-        r[15],
-        r[16],
-        r[17],
-        r[18],
-    ]
+    let mut bytes = [0; 16];
+    copy(r, 3, &mut bytes);
+    bytes
 }
 
 fn name_of(r: [u8; 28]) -> [u8; 14]
     ensures { λ b. ⌜ b ≡ take 14 (drop 11 r) ⌝ }
 {
-    [
-        r[11],
-        r[12],
-        r[13],
-        r[14],
-        r[15],
-        r[16],
-        r[17],
-        r[18],
-        r[19],
-        r[20],
-        r[21],
-        r[22],
-        r[23],
-        r[24],
-    ]
+    let mut name = [0; 14];
+    copy(r, 11, &mut name);
+    name
 }
 
 pub fn request_of(r: [u8; 28]) -> Request
@@ -100,7 +69,7 @@ pub fn request_of(r: [u8; 28]) -> Request
 {
     Request {
         length: r[2],
-        bytes: bytes_at_3(r),
+        bytes: request_bytes(r),
         reply: r[19],
         timeout: number_4(r[20], r[21], r[22], r[23]),
         flags: number_4(r[24], r[25], r[26], r[27]),

@@ -16,7 +16,7 @@ use Rattle.lists.specs.Tests.{bit, eqb-refl}
 use Rattle.rules.proofs.Accepted.{transmit-queued}
 use Rattle.rules.specs.Call.{Request, accepted, callTransmit}
 use Rattle.rules.specs.Handles.{isOpen}
-use Rattle.rules.specs.Number.{nextNumber}
+use Rattle.rules.specs.Number.{nextSequence}
 use Rattle.rules.specs.State.{State, withQueue, withLast}
 use Rattle.rules.specs.Step.{step}
 use Rattle.rules.specs.Transmit.{transmissionOf, wantsReply, timeoutOf}
@@ -34,22 +34,22 @@ pub record Began (h : ℕ) (x : Request) (n : ℕ) (s : State) : Type 0 where
 
 module _ (s : State) (r : Inv s) (h : ℕ) (x : Request) where
   -- of handle g under its number there is what passes the test of the new one
-  new-sending : (q : Transmission → Bool) (g : ℕ) → sendingAs q g (nextNumber s) (enqueued s h x) ≡ sentAs q g (nextNumber s) (transmissionOf (nextNumber s) h x)
+  new-sending : (q : Transmission → Bool) (g : ℕ) → sendingAs q g (nextSequence s) (enqueued s h x) ≡ sentAs q g (nextSequence s) (transmissionOf (nextSequence s) h x)
   unfolding sendingAs
   new-sending q g =
-      omega (arith, sum-queued (sentAs q g (nextNumber s)) s h x, sending-less q g (nextNumber s) s, unused g (nextNumber s) s (next-unused s r) .0)
+      omega (arith, sum-queued (sentAs q g (nextSequence s)) s h x, sending-less q g (nextSequence s) s, unused g (nextSequence s) s (next-unused s r) .0)
 
   -- of its own handle there is one, if it passes the test
-  own-new : (q : Transmission → Bool) (b : Bool) → q (transmissionOf (nextNumber s) h x) ≡ b → sendingAs q h (nextNumber s) (enqueued s h x) ≡ bit b
-  own-new q b e = new-sending q h ∙ rw (eqb-refl h, eqb-refl (nextNumber s), e)
+  own-new : (q : Transmission → Bool) (b : Bool) → q (transmissionOf (nextSequence s) h x) ≡ b → sendingAs q h (nextSequence s) (enqueued s h x) ≡ bit b
+  own-new q b e = new-sending q h ∙ rw (eqb-refl h, eqb-refl (nextSequence s), e)
 
   -- nothing waits under its number
-  new-waiting : (g : ℕ) → waiting g (nextNumber s) (enqueued s h x) ≡ 0
+  new-waiting : (g : ℕ) → waiting g (nextSequence s) (enqueued s h x) ≡ 0
   unfolding waitingAs
-  new-waiting g = unused g (nextNumber s) s (next-unused s r) .1
+  new-waiting g = unused g (nextSequence s) s (next-unused s r) .1
 
   -- so it begins
-  queued-began : isOpen s h ≡ true → Began h x (nextNumber s) (enqueued s h x)
+  queued-began : isOpen s h ≡ true → Began h x (nextSequence s) (enqueued s h x)
   queued-began o = record {
     home = open-below s h r o;
     some = next-some s;
@@ -65,5 +65,5 @@ module _ (s : State) (r : Inv s) (h : ℕ) (x : Request) where
   pub began : (n : ℕ) → step s (callTransmit h x) .answer ≡ accepted n 0 → Began h x n (step s (callTransmit h x) .state)
   began n e =
       let q = transmit-queued s h x n e in
-      let a : step s (callTransmit h x) .state ≡ enqueued s h x = q .did ∙ ap (λ (k : ℕ). withLast (withQueue s (s .queue ++ (transmissionOf k h x ∷ []))) k) (q .number) in
-      rw (a, q .number) (queued-began (q .opens))
+      let a : step s (callTransmit h x) .state ≡ enqueued s h x = q .did ∙ ap (λ (k : ℕ). withLast (withQueue s (s .queue ++ (transmissionOf k h x ∷ []))) k) (q .sequence) in
+      rw (a, q .sequence) (queued-began (q .opens))

@@ -17,7 +17,7 @@ use Rattle.message.specs.declared.Message.{Message}
 use Rattle.rules.specs.Call.{Call, Answer, done, opened, accepted, callOpen, callClose, callTransmit, callBusResult, callMessage, callTime}
 use Rattle.rules.specs.Mode.{inMode}
 use Rattle.rules.specs.Open.{openedHandle}
-use Rattle.rules.specs.State.{State, closedHandle, noSettings, noneNoted, withHandles}
+use Rattle.rules.specs.State.{State, fresh, closedHandle, withHandles, withInboxes, withLast}
 use Rattle.rules.specs.Step.{Step}
 
 -- a message, whatever it says
@@ -26,17 +26,9 @@ m = message 2 (replicate 16 0)
 
 -- handles 0 and 1 open, with these inboxes
 abbrev state : List Entry → List Entry → State
-state inbox0 inbox1 = record {
-  capabilities = record { transmit = true; monitorAll = true };
-  handles = openedHandle true ∷ openedHandle true ∷ replicate 6 closedHandle;
-  inboxes = inbox0 ∷ inbox1 ∷ replicate 6 [];
-  queue = [];
-  wire = [];
-  waits = [];
-  last = 1;
-  settings = noSettings;
-  noted = noneNoted;
-}
+state inbox0 inbox1 =
+    let handles = openedHandle true ∷ openedHandle true ∷ replicate 6 closedHandle in
+    withLast (withInboxes (withHandles (fresh (record { transmit = true; monitorAll = true })) handles) (inbox0 ∷ inbox1 ∷ replicate 6 [])) 1
 
 abbrev call : Call → Answer → State → State → Step
 call c a before after = record { before = before; call = c; answer = a; after = after }
@@ -122,7 +114,10 @@ abbrev waited : Step
 waited = call (callTime 1000) done (state (ok ∷ []) []) (state (ok ∷ []) [])
 
 pub never-ends : Kept (asked ∷ sent (ok ∷ []) [] ∷ waited ∷ []) → ⊥
-never-ends k = let z = k .transmits [] asked (sent (ok ∷ []) [] ∷ waited ∷ []) refl 0 asks 1 refl refl .oneReply [] (sent (ok ∷ []) []) (waited ∷ []) refl refl (omega arith) refl refl (omega arith) in omega arith
+never-ends k =
+    let ended = sent (ok ∷ []) [] in
+    let z = k .transmits [] asked (ended ∷ waited ∷ []) refl 0 asks 1 refl refl .oneReply [] ended (waited ∷ []) refl refl (omega arith) refl refl (omega arith) in
+    omega arith
 
 -- nineteen bus results, and none of them is its
 abbrev other : Step

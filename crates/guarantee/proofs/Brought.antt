@@ -69,23 +69,23 @@ module _ (s : State) (c : Call) (t : State) (e : Ends s c t) (h : ℕ) (l : h < 
       rw (e .closes h, e .comes h l .mail .grown, z) (drop-append-seam (inboxOf (s .inboxes) h) (e .comes h l .mail .more))
 
   -- a weight over the results and replies to h
-  entries-sum : (f : Entry → ℕ) → sum f (entriesTo (e .resultOf) (e .replyOf) h (e .sent) (e .over))
-      ≡ sum (λ x. cond (eqb (x .owner) h) (f (e .resultOf x)) 0) (e .sent) + sum (λ w. cond (ownedBy h w) (f (e .replyOf w)) 0) (e .over)
+  entries-sum : (f : Entry → ℕ) → sum f (entriesTo (e .by .resultOf) (e .by .replyOf) h (e .sent) (e .over))
+      ≡ sum (λ x. cond (eqb (x .owner) h) (f (e .by .resultOf x)) 0) (e .sent) + sum (λ w. cond (ownedBy h w) (f (e .by .replyOf w)) 0) (e .over)
   entries-sum f =
       let a = keep (λ (x : Transmission). eqb (x .owner) h) (e .sent) in
       let b = keep (ownedBy h) (e .over) in
       omega (
         arith,
-        sum-append f (map (e .resultOf) a) (map (e .replyOf) b),
-        sum-map f (e .resultOf) a,
-        sum-map f (e .replyOf) b,
-        sum-keep (λ x. f (e .resultOf x)) (λ x. eqb (x .owner) h) (e .sent),
-        sum-keep (λ w. f (e .replyOf w)) (ownedBy h) (e .over),
+        sum-append f (map (e .by .resultOf) a) (map (e .by .replyOf) b),
+        sum-map f (e .by .resultOf) a,
+        sum-map f (e .by .replyOf) b,
+        sum-keep (λ x. f (e .by .resultOf x)) (λ x. eqb (x .owner) h) (e .sent),
+        sum-keep (λ w. f (e .by .replyOf w)) (ownedBy h) (e .over),
       )
 
   -- entries of a kind that copies are not of are counted over the transmissions and waits that end
   ended-brought : (p : Entry → Bool) → Numbered (λ x. bit (p x)) → brought p h s c (finish done t)
-      ≡ sum (λ x. cond (eqb (x .owner) h) (bit (p (e .resultOf x))) 0) (e .sent) + sum (λ w. cond (ownedBy h w) (bit (p (e .replyOf w))) 0) (e .over)
+      ≡ sum (λ x. cond (eqb (x .owner) h) (bit (p (e .by .resultOf x))) 0) (e .sent) + sum (λ w. cond (ownedBy h w) (bit (p (e .by .replyOf w))) 0) (e .over)
   unfolding brought
   ended-brought p z = ap (count p) ended-came ∙ e .comes h l .mail .counted (λ x. bit (p x)) z ∙ entries-sum (λ x. bit (p x))
 
@@ -95,18 +95,18 @@ module _ (s : State) (c : Call) (t : State) (e : Ends s c t) (h : ℕ) (l : h < 
 
   module _ (n : ℕ) (d : n ≢ 0) where
     -- a result shows its number and a status that is not 0, and no receive status
-    result-is : (x : Transmission) → isResult n (e .resultOf x) ≡ eqb (x .number) n
-    result-is x = let z = e .results x in rw (z .sequence, z .transmitted, ne-eqb (e .status) 0 (e .final)) (and-true (eqb (x .number) n))
+    result-is : (x : Transmission) → isResult n (e .by .resultOf x) ≡ eqb (x .sequence) n
+    result-is x = let z = e .by .results x in rw (z .sequence, z .transmitted, ne-eqb (e .by .status) 0 (e .by .final)) (and-true (eqb (x .sequence) n))
 
-    result-not : (x : Transmission) → bit (isReplyEntry n (e .resultOf x)) ≡ 0
-    result-not x = let z = e .results x in rw (z .received, and-false)
+    result-not : (x : Transmission) → bit (isReplyEntry n (e .by .resultOf x)) ≡ 0
+    result-not x = let z = e .by .results x in rw (z .received, and-false)
 
     -- a reply shows its number and a receive status, and no status of a transmit
-    reply-is : (w : Wait) → isReplyEntry n (e .replyOf w) ≡ eqb (w .number) n
-    reply-is w = let z = e .replies w in rw (z .sequence, ne-eqb (e .replyOf w .«rx_status») 0 (z .received)) (and-true (eqb (w .number) n))
+    reply-is : (w : Wait) → isReplyEntry n (e .by .replyOf w) ≡ eqb (w .sequence) n
+    reply-is w = let z = e .by .replies w in rw (z .sequence, ne-eqb (e .by .replyOf w .«rx_status») 0 (z .received)) (and-true (eqb (w .sequence) n))
 
-    reply-not : (w : Wait) → isResult n (e .replyOf w) ≡ false
-    reply-not w = let z = e .replies w in rw (z .transmitted, and-false)
+    reply-not : (w : Wait) → isResult n (e .by .replyOf w) ≡ false
+    reply-not w = let z = e .by .replies w in rw (z .transmitted, and-false)
 
     -- results
     pub ended-results : brought (isResult n) h s c (finish done t) ≡ sum (sentAs always h n) (e .sent)
@@ -114,8 +114,8 @@ module _ (s : State) (c : Call) (t : State) (e : Ends s c t) (h : ℕ) (l : h < 
         omega (
           arith,
           ended-brought (isResult n) (result-numbered n d),
-          sum-same (λ x. cond (eqb (x .owner) h) (bit (isResult n (e .resultOf x))) 0) (sentAs always h n) (e .sent) (λ x. rw (result-is x) (and-cond (eqb (x .owner) h) (eqb (x .number) n))),
-          none-kept (ownedBy h) (λ w. bit (isResult n (e .replyOf w))) (e .over) (λ w. rw (reply-not w)),
+          sum-same (λ x. cond (eqb (x .owner) h) (bit (isResult n (e .by .resultOf x))) 0) (sentAs always h n) (e .sent) (λ x. rw (result-is x) (and-cond (eqb (x .owner) h) (eqb (x .sequence) n))),
+          none-kept (ownedBy h) (λ w. bit (isResult n (e .by .replyOf w))) (e .over) (λ w. rw (reply-not w)),
         )
 
     -- replies
@@ -124,23 +124,23 @@ module _ (s : State) (c : Call) (t : State) (e : Ends s c t) (h : ℕ) (l : h < 
         omega (
           arith,
           ended-brought (isReplyEntry n) (reply-numbered n d),
-          none-kept (λ (x : Transmission). eqb (x .owner) h) (λ x. bit (isReplyEntry n (e .resultOf x))) (e .sent) result-not,
-          sum-same (λ w. cond (ownedBy h w) (bit (isReplyEntry n (e .replyOf w))) 0) (awaitedAs always h n) (e .over) (λ w. rw (reply-is w) (and-cond (eqb (w .owner) h) (eqb (w .number) n))),
+          none-kept (λ (x : Transmission). eqb (x .owner) h) (λ x. bit (isReplyEntry n (e .by .resultOf x))) (e .sent) result-not,
+          sum-same (λ w. cond (ownedBy h w) (bit (isReplyEntry n (e .by .replyOf w))) 0) (awaitedAs always h n) (e .over) (λ w. rw (reply-is w) (and-cond (eqb (w .owner) h) (eqb (w .sequence) n))),
         )
 
     -- results with the OK bit
-    ok-sent : (x : Transmission) → cond (eqb (x .owner) h) (bit (isOkResult n (e .resultOf x))) 0 ≡ cond (hasBit CEC-TX-STATUS-OK (e .status)) (sentAs always h n x) 0
+    ok-sent : (x : Transmission) → cond (eqb (x .owner) h) (bit (isOkResult n (e .by .resultOf x))) 0 ≡ cond (hasBit CEC-TX-STATUS-OK (e .by .status)) (sentAs always h n x) 0
     ok-sent x =
-        rw (result-is x, e .results x .transmitted)
-        (split (hasBit CEC-TX-STATUS-OK (e .status))
-        (λ q. rw (q, and-true) (and-cond (eqb (x .owner) h) (eqb (x .number) n)))
+        rw (result-is x, e .by .results x .transmitted)
+        (split (hasBit CEC-TX-STATUS-OK (e .by .status))
+        (λ q. rw (q, and-true) (and-cond (eqb (x .owner) h) (eqb (x .sequence) n)))
         (λ q. rw (q, and-false) (split (eqb (x .owner) h) (λ o. rw o) (λ o. rw o))))
 
-    pub ended-oks : brought (isOkResult n) h s c (finish done t) ≡ sum (λ x. cond (hasBit CEC-TX-STATUS-OK (e .status)) (sentAs always h n x) 0) (e .sent)
+    pub ended-oks : brought (isOkResult n) h s c (finish done t) ≡ sum (λ x. cond (hasBit CEC-TX-STATUS-OK (e .by .status)) (sentAs always h n x) 0) (e .sent)
     ended-oks =
         omega (
           arith,
           ended-brought (isOkResult n) (ok-numbered n d),
-          sum-same (λ x. cond (eqb (x .owner) h) (bit (isOkResult n (e .resultOf x))) 0) (λ x. cond (hasBit CEC-TX-STATUS-OK (e .status)) (sentAs always h n x) 0) (e .sent) ok-sent,
-          none-kept (ownedBy h) (λ w. bit (isOkResult n (e .replyOf w))) (e .over) (λ w. rw (reply-not w)),
+          sum-same (λ x. cond (eqb (x .owner) h) (bit (isOkResult n (e .by .resultOf x))) 0) (λ x. cond (hasBit CEC-TX-STATUS-OK (e .by .status)) (sentAs always h n x) 0) (e .sent) ok-sent,
+          none-kept (ownedBy h) (λ w. bit (isOkResult n (e .by .replyOf w))) (e .over) (λ w. rw (reply-not w)),
         )

@@ -10,7 +10,7 @@ use lib.Dec.{eqb, ltb}
 use lib.ListN.{length, drop, length-set}
 use borrow.Author.Tests.{lt-ltb}
 use Rattle.constants.specs.Kernel.{CEC-TX-STATUS-OK}
-use Rattle.entry.specs.Entry.{result, resultCopy, timedOut}
+use Rattle.entry.specs.Entry.{result, resultCopy}
 use Rattle.entry.specs.declared.Counts.{Counts}
 use Rattle.entry.specs.declared.Entry.{Entry}
 use Rattle.guarantee.proofs.Carried.{sentAs, awaitedAs, waitingAs}
@@ -21,13 +21,14 @@ use Rattle.lists.specs.Last.{last, last-more, last-tail}
 use Rattle.lists.specs.Sums.{sum, sum-append, count}
 use Rattle.lists.specs.Tests.{bit, split, both}
 use Rattle.rules.proofs.Aside.{Owned, Aside, copies-aside, core-weightless, room-owned}
-use Rattle.rules.proofs.Entries.{result-shows, resultCopy-shows, timedOut-shows}
+use Rattle.rules.proofs.Entries.{result-shows, resultCopy-shows, timeoutEntry-shows}
 use Rattle.rules.specs.BusResult.{concluded, begun, waitFor}
 use Rattle.rules.specs.Call.{callBusResult}
 use Rattle.rules.specs.Deliver.{copies}
 use Rattle.rules.specs.Handles.{isMonitor, hasBit, inRole}
 use Rattle.rules.specs.Owed.{pending, roomOwed, owedRoom}
 use Rattle.rules.specs.State.{State}
+use Rattle.rules.specs.Time.{timeoutEntry}
 use Rattle.transmission.specs.Transmission.{ownerless, roomFor}
 use Rattle.transmission.specs.declared.Transmission.{Transmission}
 use Rattle.wait.specs.Wait.{ownedBy}
@@ -37,12 +38,12 @@ use Rattle.wait.specs.declared.Wait.{Wait}
 pub wait-proper : (x : Transmission) → improper x ≡ 0 → x .«wants_reply» ≡ true → (spent (waitFor x) ≡ 0) × (improperWait (waitFor x) ≡ 0)
 wait-proper x z w =
     split (ltb (x .owner) 8)
-    (λ o. split (eqb (x .number) 0)
+    (λ o. split (eqb (x .sequence) 0)
     (λ n. absurd (let y = rw (o, n) at z in omega arith))
     (λ n. split (eqb (x .timeout) 0)
     (λ t. absurd (let y = rw (o, n, w, t) at z in omega arith))
     (λ t. (rw t, rw (o, n)))))
-    (λ o. split (eqb (x .number) 0)
+    (λ o. split (eqb (x .sequence) 0)
     (λ n. absurd (let y = rw (o, n, w) at z in omega arith))
     (λ n. absurd (let y = rw (o, n) at z in omega arith)))
 
@@ -95,12 +96,9 @@ module _ (s : State) (x : Transmission) (r : Inv s) (w : s .wire ≡ x ∷ []) w
       split (hasBit CEC-TX-STATUS-OK status && x .«wants_reply») (λ e. rw e (omega arith)) (λ e. rw e (omega arith))
 
   module _ (status : ℕ) (kept : Counts) where
-    -- the entry of its result, and that of a reply, of which there is none here
+    -- the entry of its result; there is no reply here
     abbrev resultOf : Transmission → Entry
-    resultOf t = result (t .number) status kept (t .message)
-
-    abbrev replyOf : Wait → Entry
-    replyOf v = timedOut (v .number) (v .sent)
+    resultOf t = result (t .sequence) status kept (t .message)
 
     -- the copies for monitors come first
     abbrev copied : State
@@ -142,16 +140,18 @@ module _ (s : State) (x : Transmission) (r : Inv s) (w : s .wire ≡ x ∷ []) w
     unfolding waitingAs
     busResult-ends counts d = record {
       sent = x ∷ [];
-      status = status;
       over = [];
-      final = d;
-      resultOf = resultOf;
-      replyOf = replyOf;
-      results = λ t. result-shows (t .number) status kept (t .message);
-      replies = λ v. shown-reply (timedOut-shows (v .number) (v .sent)) (omega arith);
-      comes = λ h l. comes resultOf replyOf h l s copied copied (concluded s x status kept) (x ∷ []) [] r aside refl refl (owed-less h l);
+      by = record {
+        status = status;
+        final = d;
+        resultOf = resultOf;
+        replyOf = timeoutEntry;
+        results = λ t. result-shows (t .sequence) status kept (t .message);
+        replies = λ v. shown-reply (timeoutEntry-shows v) (omega arith);
+      };
+      comes = λ h l. comes resultOf timeoutEntry h l s copied copied (concluded s x status kept) (x ∷ []) [] r aside refl refl (owed-less h l);
       closes = λ h. refl;
-      modes = record { capabilities = aside .modes .capabilities; handles = aside .modes .handles };
+      modes = aside .modes;
       inboxes = length-set (copied .inboxes) (x .owner) _ ∙ aside .inboxes ∙ r .inboxes;
       queued = aside .fits (r .queued);
       wired = omega (arith, ap (λ (l : List Transmission). length (drop 1 l)) w);

@@ -17,10 +17,11 @@ use Rattle.guarantee.proofs.BusResultEnds.{busResult-ends}
 use Rattle.guarantee.proofs.Cases.{Cases, Quiet, calm, enqueued, stepFrom, same-came, closed-came, received-came}
 use Rattle.guarantee.proofs.Invariant.{Inv, open-below}
 use Rattle.guarantee.proofs.MessageEnds.{message-ends}
-use Rattle.guarantee.proofs.ModesKept.{mode-held}
+use Rattle.guarantee.proofs.ModesKept.{mode-held, same-held}
 use Rattle.guarantee.proofs.TimeEnds.{time-ends}
 use Rattle.guarantee.proofs.UnconfigureEnds.{unconfigure-ends}
-use Rattle.guarantee.specs.Seen.{milliseconds, opensTo, doneBy, isClose, isReceive, isBusResult, givenBy, givesTo}
+use Rattle.guarantee.specs.Modes.{ModesHeld}
+use Rattle.guarantee.specs.Seen.{milliseconds, opensTo, doneBy, isClose, isReceive, isBusResult, entryGiven, givesTo}
 use Rattle.handle.specs.declared.Handle.{Handle}
 use Rattle.inbox.specs.Inboxes.{inboxOf}
 use Rattle.lists.specs.Elements.{set-rel}
@@ -30,10 +31,11 @@ use Rattle.lists.specs.Vector.{put}
 use Rattle.message.specs.Message.{message}
 use Rattle.rules.proofs.Accepted.{Roomy, all-passed}
 use Rattle.rules.proofs.Checks.{passed}
-use Rattle.rules.proofs.Refused.{differ}
+use Rattle.rules.proofs.SameModes.{SameModes, modes-refl, same-many, same-open}
 use Rattle.rules.specs.BusResult.{doBusResult, isFinal, keptCounts, concluded}
 use Rattle.rules.specs.BusStart.{doBusStart}
-use Rattle.rules.specs.Call.{Call, Request, Answer, Outcome, finish, unless, refused, done, accepted, received, started, listed, address, callOpen, callClose, callMode, callTransmit, callReceive, callBusStart, callBusResult, callMessage, callTime, callConfigure, callUnconfigure, callListing, callLookup}
+use Rattle.rules.specs.Call.{Call, Request, Answer, Outcome, finish, unless, refused, done, accepted, received, started, listed, address}
+use Rattle.rules.specs.Call.{callOpen, callClose, callMode, callTransmit, callReceive, callBusStart, callBusResult, callMessage, callTime, callConfigure, callUnconfigure, callListing, callLookup}
 use Rattle.rules.specs.Close.{doClose}
 use Rattle.rules.specs.Configure.{doConfigure, keptSettings}
 use Rattle.rules.specs.Handles.{handleAt, isOpen}
@@ -41,15 +43,14 @@ use Rattle.rules.specs.Incoming.{doMessage}
 use Rattle.rules.specs.Listing.{doListing, filledRows}
 use Rattle.rules.specs.Lookup.{doLookup}
 use Rattle.rules.specs.Mode.{doMode, inMode, modeRefusal}
-use Rattle.rules.specs.Number.{nextNumber}
+use Rattle.rules.specs.Number.{nextSequence}
 use Rattle.rules.specs.Open.{doOpen, lowestClosed, openDone}
 use Rattle.rules.specs.Receive.{doReceive}
-use Rattle.rules.specs.State.{State, closedHandle, withHandles, withInboxes, withQueue, withWire, withSettings}
+use Rattle.rules.specs.State.{State, closedHandle, withHandles, withInboxes, withQueue, withWire, withLast, withSettings}
 use Rattle.rules.specs.Step.{step}
 use Rattle.rules.specs.Time.{doTime}
 use Rattle.rules.specs.Transmit.{doTransmit, isSelfPoll, polled, queued}
 use Rattle.rules.specs.Unconfigure.{doUnconfigure}
-use Rattle.settings.specs.declared.Settings.{Settings}
 use Rattle.transmission.specs.Transmission.{headOf}
 use Rattle.transmission.specs.declared.Transmission.{Transmission}
 
@@ -59,24 +60,34 @@ unfolding isFinal
 final-some status e p = clash (rw p at e) refl
 
 module _ (s : State) (r : Inv s) (P : Call → Outcome → Type 0) (k : Cases s P) where
+  -- nothing is opened, closed, given or ended, and no time passes
+  abbrev Mute : Call → Answer → Type 0
+  Mute c a = (h : ℕ) → (opensTo h a ≡ false) × (doneBy (isClose h c) a ≡ false) × (entryGiven (isReceive h c) a ≡ []) × (doneBy (isBusResult c) a ≡ false) × (milliseconds c ≡ 0)
+
   -- the state may change in modes, last number, settings and noted addresses
-  quietly : (c : Call) (a : Answer) (hs : List Handle) (last : ℕ) (x : Settings) (noted : List ℕ) → Quiet s c a hs → P c (finish a (calm s hs last x noted))
-  quietly c a hs last x noted q = k .whenQuiet c a hs last x noted q (λ h. same-came h (stepFrom s c (finish a (calm s hs last x noted))) refl (q .noGift h))
+  quietly : (c : Call) (a : Answer) (t : State) → length (t .handles) ≡ length (s .handles) → ((h : ℕ) → isOpen t h ≡ isOpen s h) → (ModesHeld s → ModesHeld t)
+      → Mute c a → ((n : ℕ) → givesTo n a ≡ true → nextSequence s ≡ n) → P c (finish a (calm s t))
+  quietly c a t l o m z n =
+      let q : Quiet s c a t = record {
+        handles = l;
+        still = o;
+        modes = m;
+        noOpen = λ h. z h .0;
+        noClose = λ h. z h .1;
+        noGift = λ h. z h .2;
+        noEnd = z 0 .3;
+        noTime = z 0 .4;
+        sequence = n;
+      } in
+      k .whenQuiet c a t q (λ h. same-came h (stepFrom s c (finish a (calm s t))) refl (q .noGift h))
+
+  -- not in modes
+  unmoved : (c : Call) (a : Answer) (t : State) → SameModes s t → Mute c a → ((n : ℕ) → givesTo n a ≡ true → nextSequence s ≡ n) → P c (finish a (calm s t))
+  unmoved c a t m = quietly c a t (same-many s t m) (same-open s t m) (same-held s t m)
 
   -- a refused call
   refuses : (c : Call) (e : ℕ) → milliseconds c ≡ 0 → P c (finish (refused e) s)
-  refuses c e z = quietly c (refused e) (s .handles) (s .last) (s .settings) (s .noted) (record {
-    handles = refl;
-    still = λ h. refl;
-    modes = λ m. m;
-    noOpen = λ h. refl;
-    noClose = λ h. refl;
-    noGift = λ h. refl;
-    noEnd = refl;
-    noTime = z;
-    number = λ n q. clash q refl;
-    idle = λ n q. differ cc;
-  })
+  refuses c e z = unmoved c (refused e) s (modes-refl s) (λ h. (refl, refl, refl, refl, z)) (λ n q. clash q refl)
 
   -- a call with checks
   checked : (c : Call) (e : ℕ) (o : Outcome) → milliseconds c ≡ 0 → (e ≡ 0 → P c o) → P c (unless e s o)
@@ -93,39 +104,24 @@ module _ (s : State) (r : Inv s) (P : Call → Outcome → Type 0) (k : Cases s 
 
   -- a mode that is taken leaves every handle open or closed
   mode-case : (g mode : ℕ) → modeRefusal s g mode ≡ 0 → P (callMode g mode) (finish done (withHandles s (set (s .handles) g (inMode (handleAt s g) mode))))
-  mode-case g mode z = quietly (callMode g mode) done (set (s .handles) g (inMode (handleAt s g) mode)) (s .last) (s .settings) (s .noted) (record {
-    handles = length-set (s .handles) g (inMode (handleAt s g) mode);
-    still = λ h. set-rel (λ (x y : Handle). x .«is_open» ≡ y .«is_open») (λ x. refl) (s .handles) g h (inMode (handleAt s g) mode) closedHandle refl;
-    modes = mode-held s g mode z;
-    noOpen = λ h. refl;
-    noClose = λ h. refl;
-    noGift = λ h. refl;
-    noEnd = refl;
-    noTime = refl;
-    number = λ n q. clash q refl;
-    idle = λ n q. differ cc;
-  })
+  mode-case g mode z =
+      let v = inMode (handleAt s g) mode in
+      quietly (callMode g mode) done (withHandles s (set (s .handles) g v)) (length-set (s .handles) g v)
+      (λ h. set-rel (λ (x y : Handle). x .«is_open» ≡ y .«is_open») (λ x. refl) (s .handles) g h v closedHandle refl)
+      (mode-held s g mode z)
+      (λ h. (refl, refl, refl, refl, refl))
+      (λ n q. clash q refl)
 
   -- a poll answered at once is given the next number
   polled-case : (g : ℕ) (x : Request) → P (callTransmit g x) (polled s)
-  polled-case g x = quietly (callTransmit g x) (accepted (nextNumber s) CEC-TX-STATUS-NACK) (s .handles) (nextNumber s) (s .settings) (s .noted) (record {
-    handles = refl;
-    still = λ h. refl;
-    modes = λ m. m;
-    noOpen = λ h. refl;
-    noClose = λ h. refl;
-    noGift = λ h. refl;
-    noEnd = refl;
-    noTime = refl;
-    number = λ n q. eqb-true (nextNumber s) n q;
-    idle = λ n q. let y : _≡_ {A = ℕ} CEC-TX-STATUS-NACK 0 = cc in omega arith;
-  })
+  polled-case g x =
+      unmoved (callTransmit g x) (accepted (nextSequence s) CEC-TX-STATUS-NACK) (withLast s (nextSequence s)) (modes-refl s) (λ h. (refl, refl, refl, refl, refl)) (eqb-true (nextSequence s))
 
   -- a transmit that is queued found a place
   queued-case : (g : ℕ) (x : Request) → isOpen s g ≡ true → Roomy s g x → P (callTransmit g x) (queued s g x)
   queued-case g x o f =
       rw (lt-ltb (length (s .queue)) 18 (f .place))
-      (k .whenQueued g x (open-below s g r o) o (f .place) (f .replies) (f .room) (λ h. same-came h (stepFrom s (callTransmit g x) (finish (accepted (nextNumber s) 0) (enqueued s g x))) refl refl))
+      (k .whenQueued g x (open-below s g r o) o (f .place) (f .replies) (f .room) (λ h. same-came h (stepFrom s (callTransmit g x) (finish (accepted (nextSequence s) 0) (enqueued s g x))) refl refl))
 
   -- a receive takes the oldest entry
   receive-case : (g : ℕ) (l : List Entry) → isOpen s g ≡ true → inboxOf (s .inboxes) g ≡ l → eqb (length l) 0 ≡ false
@@ -148,22 +144,6 @@ module _ (s : State) (r : Inv s) (P : Call → Outcome → Type 0) (k : Cases s 
   result-case status counts [] e l c f = clash c refl
   result-case status counts (x ∷ []) e l c f = k .whenEnded (callBusResult status counts) _ (busResult-ends s x r e status (keptCounts status counts) counts (final-some status f))
   result-case status counts (x ∷ (y ∷ w)) e l c f = absurd (omega arith)
-
-  -- a call that answers and changes nothing but settings
-  telling : (c : Call) (a : Answer) (x : Settings) → ((h : ℕ) → opensTo h a ≡ false) → ((h : ℕ) → doneBy (isClose h c) a ≡ false) → ((h : ℕ) → givenBy (isReceive h c) a ≡ []) → doneBy (isBusResult c) a ≡ false
-      → milliseconds c ≡ 0 → ((n : ℕ) → givesTo n a ≡ false) → ((n : ℕ) → a ≡ accepted n 0 → ⊥) → P c (finish a (withSettings s x))
-  telling c a x o cl gi e t n i = quietly c a (s .handles) (s .last) x (s .noted) (record {
-    handles = refl;
-    still = λ h. refl;
-    modes = λ m. m;
-    noOpen = o;
-    noClose = cl;
-    noGift = gi;
-    noEnd = e;
-    noTime = t;
-    number = λ m q. clash q (n m);
-    idle = i;
-  })
 
   -- every call
   pub by-cases : (c : Call) → P c (step s c)
@@ -188,9 +168,9 @@ module _ (s : State) (r : Inv s) (P : Call → Outcome → Type 0) (k : Cases s 
       let a = passed (not (ltb 0 (length (s .wire)) && isFinal status)) EINVAL 0 (omega arith) z in
       let b = both (ltb 0 (length (s .wire))) (isFinal status) (not-false (ltb 0 (length (s .wire)) && isFinal status) (a .0)) in
       result-case status counts (s .wire) refl (r .wired) (b .0) (b .1))
-  by-cases (callMessage n bytes) = checked (callMessage n bytes) _ _ refl (λ z. k .whenEnded (callMessage n bytes) _ (message-ends s r (message n bytes) n bytes))
+  by-cases (callMessage n bytes) = checked (callMessage n bytes) _ _ refl (λ z. k .whenEnded (callMessage n bytes) _ (message-ends s r (message n bytes) n bytes _ _))
   by-cases (callTime ms) = k .whenEnded (callTime ms) _ (time-ends ms s r)
-  by-cases (callConfigure x) = checked (callConfigure x) _ _ refl (λ z. telling (callConfigure x) done (keptSettings x) (λ h. refl) (λ h. refl) (λ h. refl) refl refl (λ n. refl) (λ n q. differ cc))
+  by-cases (callConfigure x) = checked (callConfigure x) _ _ refl (λ z. unmoved _ _ (withSettings s (keptSettings x)) (modes-refl s) (λ h. (refl, refl, refl, refl, refl)) (λ n q. clash q refl))
   by-cases callUnconfigure = k .whenEnded callUnconfigure _ (unconfigure-ends s r)
-  by-cases (callListing rows) = checked (callListing rows) _ _ refl (λ z. telling (callListing rows) (listed (filledRows s rows)) (s .settings) (λ h. refl) (λ h. refl) (λ h. refl) refl refl (λ n. refl) (λ n q. differ cc))
-  by-cases (callLookup a) = checked (callLookup a) _ _ refl (λ z. telling (callLookup a) (address (getD (s .noted) a CEC-PHYS-ADDR-INVALID)) (s .settings) (λ h. refl) (λ h. refl) (λ h. refl) refl refl (λ n. refl) (λ n q. differ cc))
+  by-cases (callListing rows) = checked (callListing rows) _ _ refl (λ z. unmoved _ _ s (modes-refl s) (λ h. (refl, refl, refl, refl, refl)) (λ n q. clash q refl))
+  by-cases (callLookup a) = checked (callLookup a) _ _ refl (λ z. unmoved _ _ s (modes-refl s) (λ h. (refl, refl, refl, refl, refl)) (λ n q. clash q refl))

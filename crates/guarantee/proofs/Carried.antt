@@ -19,10 +19,10 @@ use Rattle.wait.specs.declared.Wait.{Wait}
 
 -- of handle h under number n
 abbrev pub isFrom : ℕ → ℕ → Transmission → Bool
-isFrom h n t = eqb (t .owner) h && eqb (t .number) n
+isFrom h n t = eqb (t .owner) h && eqb (t .sequence) n
 
 abbrev pub isOf : ℕ → ℕ → Wait → Bool
-isOf h n w = eqb (w .owner) h && eqb (w .number) n
+isOf h n w = eqb (w .owner) h && eqb (w .sequence) n
 
 -- and passing a test
 abbrev pub sentAs : (Transmission → Bool) → ℕ → ℕ → Transmission → ℕ
@@ -70,8 +70,8 @@ and-less false false = omega arith
 pub unused : (h n : ℕ) (s : State) → carriedBy (pending s) (s .waits) n ≡ 0 → (sending h n s ≡ 0) × (waiting h n s ≡ 0)
 unfolding carriedBy sendingAs waitingAs
 unused h n s z =
-    let a = sum-le (sentAs always h n) (λ t. bit (numbered n t)) (pending s) (λ t. and-less (eqb (t .owner) h) (eqb (t .number) n)) in
-    let b = sum-le (awaitedAs always h n) (λ w. bit (Wait.numbered n w)) (s .waits) (λ w. and-less (eqb (w .owner) h) (eqb (w .number) n)) in
+    let a = sum-le (sentAs always h n) (λ t. bit (numbered n t)) (pending s) (λ t. and-less (eqb (t .owner) h) (eqb (t .sequence) n)) in
+    let b = sum-le (awaitedAs always h n) (λ w. bit (Wait.numbered n w)) (s .waits) (λ w. and-less (eqb (w .owner) h) (eqb (w .sequence) n)) in
     omega arith
 
 -- those that pass a test are not more

@@ -6,26 +6,25 @@ use mathlib.Core.List.{List, [], _∷_, _++_}
 use mathlib.Core.Path.{_≡_, refl, sym}
 use native.Mathlib.Omega.{arith}
 use lib.Dec.{eqb}
-use lib.ListN.{length, getD, set}
+use lib.ListN.{length, set}
 use lib.Seq.{getD-set-same, getD-set-other, drop-length}
 use borrow.Author.Tests.{eqb-true, eqb-false}
 use Rattle.entry.specs.declared.Entry.{Entry}
 use Rattle.guarantee.proofs.Ends.{Ends}
 use Rattle.guarantee.specs.Modes.{ModesHeld}
-use Rattle.guarantee.specs.Seen.{came, gave, opens, closes, opensTo, givesTo, givenBy, doneBy, isClose, isReceive, isBusResult, milliseconds}
-use Rattle.handle.specs.declared.Handle.{Handle}
+use Rattle.guarantee.specs.Seen.{came, gave, opens, closes, opensTo, givesTo, entryGiven, doneBy, isClose, isReceive, isBusResult, milliseconds}
 use Rattle.inbox.specs.Inboxes.{inboxOf}
-use Rattle.lists.specs.Tests.{bit, split}
+use Rattle.lists.specs.Tests.{split}
 use Rattle.rules.specs.Call.{Call, Request, Answer, Outcome, finish, done, opened, accepted, received, started, callOpen, callClose, callTransmit, callReceive, callBusStart}
 use Rattle.rules.specs.Close.{closed}
+use Rattle.rules.specs.Derived.{roomTaken}
 use Rattle.rules.specs.Handles.{isOpen}
-use Rattle.rules.specs.Number.{nextNumber}
+use Rattle.rules.specs.Number.{nextSequence}
 use Rattle.rules.specs.Open.{openedHandle}
-use Rattle.rules.specs.Owed.{wantedReplies, roomTaken}
-use Rattle.rules.specs.State.{State, closedHandle, withHandles, withInboxes, withQueue, withWire, withLast}
+use Rattle.rules.specs.Owed.{wantedReplies}
+use Rattle.rules.specs.State.{State, withHandles, withInboxes, withQueue, withWire, withWaits, withLast}
 use Rattle.rules.specs.Step.{Step}
-use Rattle.rules.specs.Transmit.{transmissionOf, wantsReply}
-use Rattle.settings.specs.declared.Settings.{Settings}
+use Rattle.rules.specs.Transmit.{transmissionOf, wantsReply, newRoom}
 use Rattle.transmission.specs.declared.Transmission.{Transmission}
 
 -- a call with its outcome, as a step of a history
@@ -36,26 +35,25 @@ stepFrom s c o = record { before = s; call = c; answer = o .answer; after = o .s
 abbrev pub Silent : State → Call → Outcome → Type 0
 Silent s c o = (h : ℕ) → came h (stepFrom s c o) ≡ []
 
--- a state that differs in modes, last number, settings and noted addresses alone
-abbrev pub calm : State → List Handle → ℕ → Settings → List ℕ → State
-calm s hs last x noted = record { capabilities = s .capabilities; handles = hs; inboxes = s .inboxes; queue = s .queue; wire = s .wire; waits = s .waits; last = last; settings = x; noted = noted }
+-- the state t, with the inboxes, the queue, the wire and the waits of s
+abbrev pub calm : State → State → State
+calm s t = withInboxes (withQueue (withWire (withWaits t (s .waits)) (s .wire)) (s .queue)) (s .inboxes)
 
--- a call that leads there: it opens, closes, gives and ends nothing, a mode that it sets may be had, and a number that it gives is the next one, for nothing queued
-pub record Quiet (s : State) (c : Call) (a : Answer) (hs : List Handle) : Type 0 where
-  pub handles : length hs ≡ length (s .handles)
-  pub still : (h : ℕ) → getD hs h closedHandle .«is_open» ≡ isOpen s h
-  pub modes : ModesHeld s → ModesHeld (withHandles s hs)
+-- a call that leads to `calm s t`: it opens, closes, gives and ends nothing, a mode that it sets may be had, and a number that it gives is the next one
+pub record Quiet (s : State) (c : Call) (a : Answer) (t : State) : Type 0 where
+  pub handles : length (t .handles) ≡ length (s .handles)
+  pub still : (h : ℕ) → isOpen t h ≡ isOpen s h
+  pub modes : ModesHeld s → ModesHeld t
   pub noOpen : (h : ℕ) → opensTo h a ≡ false
   pub noClose : (h : ℕ) → doneBy (isClose h c) a ≡ false
-  pub noGift : (h : ℕ) → givenBy (isReceive h c) a ≡ []
+  pub noGift : (h : ℕ) → entryGiven (isReceive h c) a ≡ []
   pub noEnd : doneBy (isBusResult c) a ≡ false
   pub noTime : milliseconds c ≡ 0
-  pub number : (n : ℕ) → givesTo n a ≡ true → nextNumber s ≡ n
-  pub idle : (n : ℕ) → a ≡ accepted n 0 → ⊥
+  pub sequence : (n : ℕ) → givesTo n a ≡ true → nextSequence s ≡ n
 
 -- a transmit queued under the next number
 abbrev pub enqueued : State → ℕ → Request → State
-enqueued s g r = withLast (withQueue s (s .queue ++ (transmissionOf (nextNumber s) g r ∷ []))) (nextNumber s)
+enqueued s g r = withLast (withQueue s (s .queue ++ (transmissionOf (nextSequence s) g r ∷ []))) (nextSequence s)
 
 -- a law of an outcome with which nothing comes
 abbrev pub InSilence : State → (Call → Outcome → Type 0) → Call → Outcome → Type 0
@@ -63,11 +61,11 @@ InSilence s P c o = Silent s c o → P c o
 
 pub record Cases (s : State) (P : Call → Outcome → Type 0) : Type 0 where
   -- a refused call; a mode set; a poll answered at once; a configure, a listing and a lookup
-  pub whenQuiet : (c : Call) (a : Answer) (hs : List Handle) (last : ℕ) (x : Settings) (noted : List ℕ) → Quiet s c a hs → InSilence s P c (finish a (calm s hs last x noted))
+  pub whenQuiet : (c : Call) (a : Answer) (t : State) → Quiet s c a t → InSilence s P c (finish a (calm s t))
   pub whenOpened : (i : ℕ) (p : Bool) → i < 8 → isOpen s i ≡ false → InSilence s P (callOpen p) (finish (opened i) (withHandles s (set (s .handles) i (openedHandle p))))
   pub whenClosed : (g : ℕ) → g < 8 → isOpen s g ≡ true → InSilence s P (callClose g) (finish done (closed s g))
-  pub whenQueued : (g : ℕ) (r : Request) → g < 8 → isOpen s g ≡ true → length (s .queue) < 18 → (wantsReply r ≡ true → wantedReplies s g < 4) → roomTaken s g + (1 + bit (wantsReply r)) ≤ 16
-      → InSilence s P (callTransmit g r) (finish (accepted (nextNumber s) 0) (enqueued s g r))
+  pub whenQueued : (g : ℕ) (r : Request) → g < 8 → isOpen s g ≡ true → length (s .queue) < 18 → (wantsReply r ≡ true → wantedReplies s g < 4) → roomTaken s g + newRoom r ≤ 16
+      → InSilence s P (callTransmit g r) (finish (accepted (nextSequence s) 0) (enqueued s g r))
   pub whenReceived : (g : ℕ) (e : Entry) (es : List Entry) → g < 8 → isOpen s g ≡ true → inboxOf (s .inboxes) g ≡ e ∷ es
       → InSilence s P (callReceive g) (finish (received e) (withInboxes s (set (s .inboxes) g es)))
   pub whenStarted : (x : Transmission) (q : List Transmission) → s .wire ≡ [] → s .queue ≡ x ∷ q

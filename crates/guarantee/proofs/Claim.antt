@@ -22,7 +22,8 @@ use Rattle.rules.specs.State.{State, Capabilities, fresh}
 use Rattle.rules.specs.Step.{after, Step, step, run}
 
 -- a transmit that was accepted and queued
-transmits-kept : (c : Capabilities) (calls : List Call) (past : List Step) (x : Step) (later : List Step) → run (fresh c) calls ≡ past ++ x ∷ later → (h : ℕ) (r : Request) (n : ℕ) → x .call ≡ callTransmit h r → x .answer ≡ accepted n 0 → Fate h r n later
+transmits-kept : (c : Capabilities) (calls : List Call) (past : List Step) (x : Step) (later : List Step) → run (fresh c) calls ≡ past ++ x ∷ later
+    → (h : ℕ) (r : Request) (n : ℕ) → x .call ≡ callTransmit h r → x .answer ≡ accepted n 0 → Fate h r n later
 transmits-kept c calls past x later e h r n k a =
     let p = parted (fresh c) calls past x later e in
     let s = after (fresh c) (p .before) in

@@ -19,7 +19,8 @@ use Rattle.lists.specs.Tests.{bit, split}
 use Rattle.rules.proofs.Aside.{Owned, no-owner, room-owned}
 use Rattle.rules.proofs.Numbers.{carriedBy}
 use Rattle.rules.specs.Close.{closed}
-use Rattle.rules.specs.Owed.{pending, roomOwed, repliesWanted, roomTaken}
+use Rattle.rules.specs.Derived.{roomTaken}
+use Rattle.rules.specs.Owed.{pending, roomOwed, repliesWanted}
 use Rattle.rules.specs.State.{State, closedHandle}
 use Rattle.transmission.specs.Transmission.{orphaned, roomFor, replyFor, numbered}
 use Rattle.transmission.specs.declared.Transmission.{Transmission}

@@ -14,8 +14,9 @@ use Rattle.lists.specs.Sums.{sum, sum-append, count, keep}
 use Rattle.rules.proofs.Aside.{Aside, aside-owed}
 use Rattle.rules.proofs.Mail.{Mail, post, posts-boxes, posts-length, posts-mail, mail-trans, mail-as}
 use Rattle.rules.specs.Deliver.{each}
+use Rattle.rules.specs.Derived.{roomTaken}
 use Rattle.rules.specs.Handles.{isOpen}
-use Rattle.rules.specs.Owed.{owedRoom, roomTaken}
+use Rattle.rules.specs.Owed.{owedRoom}
 use Rattle.rules.specs.State.{State}
 use Rattle.transmission.specs.declared.Transmission.{Transmission}
 use Rattle.wait.specs.Wait.{ownedBy}

@@ -8,8 +8,7 @@ use mathlib.Core.Path.{_≡_, _∙_, sym}
 use native.Mathlib.Omega.{arith}
 use lib.Dec.{ltb}
 use lib.ListN.{length}
-use Rattle.constants.specs.Kernel.{CEC-TX-STATUS-OK}
-use Rattle.entry.specs.Entry.{noCounts, result, timedOut}
+use Rattle.constants.specs.Kernel.{CEC-TX-STATUS-OK, CEC-TX-STATUS-ABORTED}
 use Rattle.entry.specs.declared.Entry.{Entry}
 use Rattle.guarantee.proofs.Carried.{sentAs, waitingAs}
 use Rattle.guarantee.proofs.Comes.{Comes, entriesTo, comes-aside}
@@ -19,13 +18,14 @@ use Rattle.lists.specs.Last.{last, last-more}
 use Rattle.lists.specs.Sums.{sum}
 use Rattle.lists.specs.Tests.{bit}
 use Rattle.rules.proofs.Aside.{Owned, Aside, aside-pending, aside-sum, core-weightless}
-use Rattle.rules.proofs.Entries.{Shows, result-shows, timedOut-shows}
+use Rattle.rules.proofs.Entries.{Shows, abortedResult-shows, abortEntry-shows}
 use Rattle.rules.proofs.SameModes.{SameModes}
 use Rattle.rules.specs.BusResult.{waitFor}
 use Rattle.rules.specs.Call.{Call}
 use Rattle.rules.specs.Handles.{hasBit}
 use Rattle.rules.specs.Owed.{pending}
 use Rattle.rules.specs.State.{State}
+use Rattle.rules.specs.Unconfigure.{abortedResult, abortEntry}
 use Rattle.transmission.specs.Transmission.{ownerless}
 use Rattle.transmission.specs.declared.Transmission.{Transmission}
 use Rattle.wait.specs.Wait.{reduced}
@@ -49,19 +49,26 @@ pub record Replies (number : ℕ) (e : Entry) : Type 0 where
 pub shown-reply : {n rx : ℕ} {e : Entry} → Shows n 0 rx e → rx ≢ 0 → Replies n e
 shown-reply x d = record { sequence = x .sequence; transmitted = x .transmitted; received = λ z. d (sym (x .received) ∙ z) }
 
--- from s the call leads to t
-pub record Ends (s : State) (c : Call) (t : State) : Type 0 where
-  -- the transmissions that end, with what status, and the waits
-  pub sent : List Transmission
+-- with what status transmissions end, and the entries by which they and the waits end
+pub record Ending : Type 0 where
   pub status : ℕ
-  pub over : List Wait
   pub final : status ≢ 0
-  -- the entries by which they end
   pub resultOf : Transmission → Entry
   pub replyOf : Wait → Entry
-  pub results : (x : Transmission) → Shows (x .number) status 0 (resultOf x)
-  pub replies : (w : Wait) → Replies (w .number) (replyOf w)
-  pub comes : (h : ℕ) → h < 8 → Comes h s t (entriesTo resultOf replyOf h sent over)
+  pub results : (x : Transmission) → Shows (x .sequence) status 0 (resultOf x)
+  pub replies : (w : Wait) → Replies (w .sequence) (replyOf w)
+
+-- transmissions are aborted
+abbrev pub aborts : (replyOf : Wait → Entry) → ((w : Wait) → Replies (w .sequence) (replyOf w)) → Ending
+aborts replyOf replies = record { status = CEC-TX-STATUS-ABORTED; final = omega arith; resultOf = abortedResult; replyOf = replyOf; results = abortedResult-shows; replies = replies }
+
+-- from s the call leads to t
+pub record Ends (s : State) (c : Call) (t : State) : Type 0 where
+  -- the transmissions and the waits that end, and how
+  pub sent : List Transmission
+  pub over : List Wait
+  pub by : Ending
+  pub comes : (h : ℕ) → h < 8 → Comes h s t (entriesTo (by .resultOf) (by .replyOf) h sent over)
   -- no handle is opened or closed, no mode is set, and nothing is past its bounds
   pub closes : (h : ℕ) → isClose h c ≡ false
   pub modes : SameModes s t
@@ -70,7 +77,7 @@ pub record Ends (s : State) (c : Call) (t : State) : Type 0 where
   pub wired : length (t .wire) ≤ 1
   -- every transmission of a handle is still to be sent, or ends; every wait waits still, or ends; and those sent with the OK bit that want a reply wait
   pub sends : (f : Transmission → ℕ) → Owned f → sum f (pending t) + sum f sent ≡ sum f (pending s)
-  pub waits : (f : Wait → ℕ) → Timeless f → sum f (t .waits) + sum f over ≡ sum f (s .waits) + sum (begins f status) sent
+  pub waits : (f : Wait → ℕ) → Timeless f → sum f (t .waits) + sum f over ≡ sum f (s .waits) + sum (begins f (by .status)) sent
   pub older : (f : Wait → ℕ) → Timeless f → sum f over ≤ sum f (s .waits)
   -- each bus result brings those to be sent one nearer
   pub nearer : (f : Transmission → ℕ) → Owned f → last f (pending t) ≤ last f (pending s) - bit (isBusResult c)
@@ -83,13 +90,8 @@ pub aside-ends : (s t : State) (c : Call) → Inv s → Aside s t → ((h : ℕ)
 unfolding waitingAs
 aside-ends s t c r a close bus time = record {
   sent = [];
-  status = 1;
   over = [];
-  final = omega arith;
-  resultOf = λ x. result (x .number) 1 noCounts (x .message);
-  replyOf = λ w. timedOut (w .number) (w .sent);
-  results = λ x. result-shows (x .number) 1 noCounts (x .message);
-  replies = λ w. shown-reply (timedOut-shows (w .number) (w .sent)) (omega arith);
+  by = aborts abortEntry (λ w. shown-reply (abortEntry-shows w) (omega arith));
   comes = λ h l. comes-aside h l s t r a;
   closes = close;
   modes = a .modes;

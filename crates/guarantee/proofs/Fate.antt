@@ -20,7 +20,8 @@ use Rattle.guarantee.proofs.Parts.{parted, own-parted, own-after}
 use Rattle.guarantee.proofs.Reached.{kept}
 use Rattle.guarantee.proofs.Totals.{nobody, own-results, all-results, placed-most, own-replies, all-replies, closed-results, closed-replies, kept-results, kept-alike, kept-waits, kept-oks}
 use Rattle.guarantee.specs.Claim.{enoughResults, Fate}
-use Rattle.guarantee.specs.Seen.{came, closes, gives, givesTo, doneBy, isClose, milliseconds, isResult, isReplyEntry, isOkResult, cameTo, cameToAny, results, okResults, replies, busResults, closings, elapsed, own}
+use Rattle.guarantee.specs.Seen.{came, closes, gives, givesTo, doneBy, isClose, milliseconds, isResult, isReplyEntry, isOkResult}
+use Rattle.guarantee.specs.Seen.{cameTo, cameToAny, results, okResults, replies, busResults, closings, elapsed, own}
 use Rattle.lists.specs.Spread.{upto-one}
 use Rattle.lists.specs.Sums.{sum-append, sum-le, count}
 use Rattle.lists.specs.Tests.{bit, split, none-bit}
@@ -104,7 +105,8 @@ module _ (h : ℕ) (x : Request) (n : ℕ) (s : State) (r : Inv s) (b : Began h 
   reply-after : (ds : List Call) (c : Call) → count (gives n) (run s ds) ≡ 0 → 1 ≤ replies n (stepOf (after s ds) c ∷ []) → 1 ≤ okResults n (run s ds)
   unfolding brought
   reply-after ds c z k =
-      let w : (g : ℕ) → (l : g < 8) → cameTo (isReplyEntry n) g (stepOf (after s ds) c ∷ []) ≤ waiting g n (after s ds) = λ g l. omega (arith, flow g n l (b .some) (after s ds) (kept s ds r) c .repliesOf) in
+      let w : (g : ℕ) → g < 8 → cameTo (isReplyEntry n) g (stepOf (after s ds) c ∷ []) ≤ waiting g n (after s ds) =
+      λ g l. omega (arith, flow g n l (b .some) (after s ds) (kept s ds r) c .repliesOf) in
       let o = one-handle (isReplyEntry n) h (stepOf (after s ds) c ∷ []) (b .home) (λ g l e. omega (arith, w g l, still-others ds z g l e .1)) in
       omega (arith, w h (b .home), past-oks ds z, kept-waits h n (b .home) (b .some) s ds r, b .quiet h)
 
@@ -135,7 +137,7 @@ module _ (h : ℕ) (x : Request) (n : ℕ) (s : State) (r : Inv s) (b : Began h 
     no-reply g l =
         split (eqb g h)
         (λ q. rw (eqb-true g h q) (closed-replies h n (b .home) (b .some) (after s ds) c es (kept s ds r) k))
-        (λ q. omega (arith, own-replies g n l (b .some) (after s ds) (c ∷ es) (kept s ds r), still-others ds z g l (eqb-false g h q) .0, still-others ds z g l (eqb-false g h q) .1, sending-less wanting g n (after s ds)))
+        (λ q. let o = still-others ds z g l (eqb-false g h q) in omega (arith, own-replies g n l (b .some) (after s ds) (c ∷ es) (kept s ds r), o .0, o .1, sending-less wanting g n (after s ds)))
 
   -- ---- a result with the OK bit at the call c, and time enough after it
   module _ (ds : List Call) (c : Call) (es : List Call) where
@@ -147,8 +149,8 @@ module _ (h : ℕ) (x : Request) (n : ℕ) (s : State) (r : Inv s) (b : Began h 
     then = step before c .state
 
     -- then there is one reply
-    reply-comes : count (gives n) (run s ds) ≡ 0 → 1 ≤ okResults n (stepOf before c ∷ []) → wantsReply x ≡ true → closings h (run s ds ++ stepOf before c ∷ run then es) ≡ 0 → timeoutOf x ≤ elapsed (run then es)
-        → cameTo (isReplyEntry n) h (own n (run s ds ++ stepOf before c ∷ run then es)) ≡ 1
+    reply-comes : count (gives n) (run s ds) ≡ 0 → 1 ≤ okResults n (stepOf before c ∷ []) → wantsReply x ≡ true
+        → closings h (run s ds ++ stepOf before c ∷ run then es) ≡ 0 → timeoutOf x ≤ elapsed (run then es) → cameTo (isReplyEntry n) h (own n (run s ds ++ stepOf before c ∷ run then es)) ≡ 1
     unfolding brought
     reply-comes z o w k t =
         let l = b .home in
@@ -174,14 +176,10 @@ module _ (h : ℕ) (x : Request) (n : ℕ) (s : State) (r : Inv s) (b : Began h 
         let fp = f .repliesOf in
         let fq = f .replies in
         let fa = f .allReplies kc in
-        let al = all-replies h n l d then es (timeoutOf x - milliseconds c) (keeps before c v) (omega (arith, b .one)) (omega (arith, f .time (timeoutOf x), b .timeout, b .quiet h, b .one)) (omega arith) (omega arith) in
-        omega (
-          arith,
-          b .one,
-          b .quiet h,
-          b .asked w,
-          sum-append (λ y. count (isReplyEntry n) (came h y)) (run s ds) (stepOf before c ∷ own n (run then es)),
-        ))))
+        let bo = b .one in
+        let bq = b .quiet h in
+        let al = all-replies h n l d then es (timeoutOf x - milliseconds c) (keeps before c v) (omega arith) (omega (arith, f .time (timeoutOf x), b .timeout)) (omega arith) (omega arith) in
+        omega (arith, b .asked w, sum-append (λ y. count (isReplyEntry n) (came h y)) (run s ds) (stepOf before c ∷ own n (run then es))))))
 
   -- ---- all of it, each clause from a law on numbers, so that a weaker clause would be proved too and only a broken history refuses it
   pub fate : Fate h x n (run s cs)
@@ -194,7 +192,8 @@ module _ (h : ℕ) (x : Request) (n : ℕ) (s : State) (r : Inv s) (b : Began h 
         (cc (reply-asked past y rest e k), omega (arith, ap (okResults n) (p .ran), reply-after (p .before) (p .call) (p .ungiven) (rw (p .here) at k)));
     oneReply = λ past y rest e g o w k t.
         let p = parted s cs past y rest e in
-        let whole : past ++ y ∷ rest ≡ run s (p .before) ++ stepOf (after s (p .before)) (p .call) ∷ run (step (after s (p .before)) (p .call) .state) (p .later) = ap₂ _++_ (p .ran) (ap₂ _∷_ (p .here) (p .runs)) in
+        let whole : past ++ y ∷ rest ≡ run s (p .before) ++ stepOf (after s (p .before)) (p .call) ∷ run (step (after s (p .before)) (p .call) .state) (p .later) =
+        ap₂ _++_ (p .ran) (ap₂ _∷_ (p .here) (p .runs)) in
         omega (
           arith,
           replies-here,

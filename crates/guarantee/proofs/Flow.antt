@@ -13,7 +13,7 @@ use Rattle.guarantee.specs.Seen.{givesTo, doneBy, isClose, isBusResult, 
 use Rattle.lists.specs.Sums.{sum}
 use Rattle.lists.specs.Tests.{bit, clash}
 use Rattle.rules.specs.Call.{Call, Outcome}
-use Rattle.rules.specs.Number.{nextNumber}
+use Rattle.rules.specs.Number.{nextSequence}
 use Rattle.rules.specs.Owed.{pending}
 use Rattle.rules.specs.State.{State}
 use Rattle.transmission.specs.declared.Transmission.{Transmission}
@@ -56,12 +56,12 @@ pub record Flow (h n : ℕ) (s : State) (c : Call) (o : Outcome) : Type 0 where
 
 module _ (h n : ℕ) (s : State) (r : Inv s) where
   -- the next number is new
-  pub next-given : nextNumber s ≡ n → (sending h n s ≡ 0) × (waiting h n s ≡ 0)
-  next-given p = rw (← p) (unused h (nextNumber s) s (next-unused s r))
+  pub next-given : nextSequence s ≡ n → (sending h n s ≡ 0) × (waiting h n s ≡ 0)
+  next-given p = rw (← p) (unused h (nextSequence s) s (next-unused s r))
 
   -- nothing is sent, begun or ended
-  pub still-flow : (c : Call) (o : Outcome) → Silent s c o → pending (o .state) ≡ pending s → o .state .waits ≡ s .waits → milliseconds c ≡ 0 → doneBy (isBusResult c) (o .answer) ≡ false → doneBy (isClose h c) (o .answer) ≡ false
-      → (givesTo n (o .answer) ≡ true → nextNumber s ≡ n) → Flow h n s c o
+  pub still-flow : (c : Call) (o : Outcome) → Silent s c o → pending (o .state) ≡ pending s → o .state .waits ≡ s .waits → milliseconds c ≡ 0
+      → doneBy (isBusResult c) (o .answer) ≡ false → doneBy (isClose h c) (o .answer) ≡ false → (givesTo n (o .answer) ≡ true → nextSequence s ≡ n) → Flow h n s c o
   unfolding sendingAs waitingAs placed
   still-flow c o z p w t e k g =
       let zr = silent-brought (isResult n) h s c o z in

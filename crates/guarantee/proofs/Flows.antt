@@ -12,19 +12,19 @@ use Rattle.constants.specs.Kernel.{CEC-TX-STATUS-OK}
 use Rattle.guarantee.proofs.Brought.{silent-brought, ended-results, ended-replies, ended-oks}
 use Rattle.guarantee.proofs.ByCases.{by-cases}
 use Rattle.guarantee.proofs.Carried.{sentAs, awaitedAs, always, sendingAs, waitingAs, placed, sent-owned}
-use Rattle.guarantee.proofs.Cases.{Cases, Silent, enqueued}
+use Rattle.guarantee.proofs.Cases.{Cases, InSilence, enqueued}
 use Rattle.guarantee.proofs.ClosedFlow.{close-flow}
 use Rattle.guarantee.proofs.Ends.{Ends, begins}
 use Rattle.guarantee.proofs.Flow.{Flow, wanting, unwanting, longer, next-given, still-flow}
 use Rattle.guarantee.proofs.Invariant.{Inv}
 use Rattle.guarantee.proofs.QueuedKept.{pending-queued, sum-queued}
 use Rattle.guarantee.specs.Seen.{isResult, isReplyEntry, isOkResult}
-use Rattle.lists.specs.Last.{last, last-more}
+use Rattle.lists.specs.Last.{last-more}
 use Rattle.lists.specs.Sums.{sum, sum-le, sum-plus}
 use Rattle.lists.specs.Tests.{split, clash, and-false}
 use Rattle.rules.specs.Call.{Call, Request, finish, done, accepted, callTransmit}
 use Rattle.rules.specs.Handles.{hasBit}
-use Rattle.rules.specs.Number.{nextNumber}
+use Rattle.rules.specs.Number.{nextSequence}
 use Rattle.rules.specs.Owed.{pending}
 use Rattle.rules.specs.State.{State}
 use Rattle.rules.specs.Step.{step}
@@ -33,48 +33,43 @@ use Rattle.transmission.specs.declared.Transmission.{Transmission}
 
 module _ (h n : ℕ) (l : h < 8) (d : n ≢ 0) (s : State) (r : Inv s) where
   -- ---- transmit: one that is given another number is of another number
-  queued-other : (g : ℕ) (x : Request) (q : Transmission → Bool) → eqb (nextNumber s) n ≡ false → sentAs q h n (transmissionOf (nextNumber s) g x) ≡ 0
+  queued-other : (g : ℕ) (x : Request) (q : Transmission → Bool) → eqb (nextSequence s) n ≡ false → sentAs q h n (transmissionOf (nextSequence s) g x) ≡ 0
   queued-other g x q e = rw (e, and-false)
 
-  queued-flow : (g : ℕ) (x : Request) → Silent s (callTransmit g x) (finish (accepted (nextNumber s) 0) (enqueued s g x)) → Flow h n s (callTransmit g x) (finish (accepted (nextNumber s) 0) (enqueued s g x))
+  queued-flow : (g : ℕ) (x : Request) → InSilence s (Flow h n s) (callTransmit g x) (finish (accepted (nextSequence s) 0) (enqueued s g x))
   unfolding sendingAs waitingAs placed
   queued-flow g x z =
       let c = callTransmit g x in
-      let o = finish (accepted (nextNumber s) 0) (enqueued s g x) in
+      let o = finish (accepted (nextSequence s) 0) (enqueued s g x) in
       let zr = silent-brought (isResult n) h s c o z in
       let zp = silent-brought (isReplyEntry n) h s c o z in
       let zo = silent-brought (isOkResult n) h s c o z in
-      let same : (q : Transmission → Bool) → eqb (nextNumber s) n ≡ false → sum (sentAs q h n) (pending (enqueued s g x)) ≡ sum (sentAs q h n) (pending s) = λ q e. omega (arith, sum-queued (sentAs q h n) s g x, queued-other g x q e) in
+      let same : (q : Transmission → Bool) → eqb (nextSequence s) n ≡ false → sum (sentAs q h n) (pending (enqueued s g x)) ≡ sum (sentAs q h n) (pending s) =
+      λ q e. omega (arith, sum-queued (sentAs q h n) s g x, queued-other g x q e) in
       record {
         resultsOf = omega arith;
         results = λ e. omega (arith, same always e);
         allResults = λ e _. omega (arith, same always e);
-        nearer = λ e _. rw (pending-queued s g x, last-more (sentAs always h n) (pending s) (transmissionOf (nextNumber s) g x ∷ []) (omega (arith, queued-other g x always e))) (omega arith);
+        nearer = λ e _. rw (pending-queued s g x, last-more (sentAs always h n) (pending s) (transmissionOf (nextSequence s) g x ∷ []) (omega (arith, queued-other g x always e))) (omega arith);
         alike = λ q e. omega (arith, same q e);
         repliesOf = omega arith;
         replies = omega arith;
         wantedReplies = λ e. omega (arith, same wanting e);
         allReplies = λ _. omega arith;
         time = λ b. let y : b - 0 ≡ b = omega arith in rw y (omega arith);
-        given = λ e. next-given h n s r (eqb-true (nextNumber s) n e);
+        given = λ e. next-given h n s r (eqb-true (nextSequence s) n e);
         closing = λ k. clash k refl;
       }
 
   -- ---- what ends transmissions and waits: a wait begins of a result with the OK bit, of a transmission that wants a reply, and of each such
-  begins-ok : (status : ℕ) (x : Transmission) → begins (awaitedAs always h n) status x ≤ cond (hasBit CEC-TX-STATUS-OK status) (sentAs always h n x) 0
-  begins-ok status x =
-      split (hasBit CEC-TX-STATUS-OK status)
-      (λ e. split (x .«wants_reply») (λ q. rw (e, q) (omega arith)) (λ q. rw (e, q) (omega arith)))
-      (λ e. rw e (omega arith))
+  abbrev begun : ℕ → Transmission → ℕ
+  begun = begins (awaitedAs always h n)
 
-  begins-wanted : (status : ℕ) (x : Transmission) → begins (awaitedAs always h n) status x ≤ sentAs wanting h n x
-  begins-wanted status x =
-      split (hasBit CEC-TX-STATUS-OK status)
-      (λ e. split (x .«wants_reply») (λ q. rw (e, q) (omega arith)) (λ q. rw (e, q) (omega arith)))
-      (λ e. rw e (omega arith))
+  abbrev oks : ℕ → Transmission → ℕ
+  oks status x = cond (hasBit CEC-TX-STATUS-OK status) (sentAs always h n x) 0
 
-  ok-begins : (status : ℕ) (x : Transmission) → cond (hasBit CEC-TX-STATUS-OK status) (sentAs always h n x) 0 ≤ begins (awaitedAs always h n) status x + sentAs unwanting h n x
-  ok-begins status x =
+  begun-of : (status : ℕ) (x : Transmission) → (begun status x ≤ oks status x) × (begun status x ≤ sentAs wanting h n x) × (oks status x ≤ begun status x + sentAs unwanting h n x)
+  begun-of status x =
       split (hasBit CEC-TX-STATUS-OK status)
       (λ e. split (x .«wants_reply») (λ q. rw (e, q) (omega arith)) (λ q. rw (e, q) (omega arith)))
       (λ e. rw e (omega arith))
@@ -83,7 +78,7 @@ module _ (h n : ℕ) (l : h < 8) (d : n ≢ 0) (s : State) (r : Inv s) where
   ended-flow : (c : Call) (t : State) → Ends s c t → Flow h n s c (finish done t)
   unfolding sendingAs waitingAs placed
   ended-flow c t e =
-      let st = e .status in
+      let st = e .by .status in
       let zr = ended-results s c t e h l n d in
       let zp = ended-replies s c t e h l n d in
       let zo = ended-oks s c t e h l n d in
@@ -96,13 +91,13 @@ module _ (h n : ℕ) (l : h < 8) (d : n ≢ 0) (s : State) (r : Inv s) where
         nearer = λ _ _. e .nearer (sentAs always h n) (sent-owned always h n l);
         alike = λ q _. omega (arith, own q);
         repliesOf = omega (arith, e .older (awaitedAs always h n) (λ ms w. refl));
-        replies = omega (arith, sum-le (begins (awaitedAs always h n) st) (λ x. cond (hasBit CEC-TX-STATUS-OK st) (sentAs always h n x) 0) (e .sent) (begins-ok st));
-        wantedReplies = λ _. omega (arith, own wanting, sum-le (begins (awaitedAs always h n) st) (sentAs wanting h n) (e .sent) (begins-wanted st));
+        replies = omega (arith, sum-le (begun st) (oks st) (e .sent) (λ x. begun-of st x .0));
+        wantedReplies = λ _. omega (arith, own wanting, sum-le (begun st) (sentAs wanting h n) (e .sent) (λ x. begun-of st x .1));
         allReplies = λ _. omega (
           arith,
           own unwanting,
-          sum-le (λ x. cond (hasBit CEC-TX-STATUS-OK st) (sentAs always h n x) 0) (λ x. begins (awaitedAs always h n) st x + sentAs unwanting h n x) (e .sent) (ok-begins st),
-          sum-plus (begins (awaitedAs always h n) st) (sentAs unwanting h n) (e .sent),
+          sum-le (oks st) (λ x. begun st x + sentAs unwanting h n x) (e .sent) (λ x. begun-of st x .2),
+          sum-plus (begun st) (sentAs unwanting h n) (e .sent),
         );
         time = λ b. omega (arith, e .late h n b, own (longer b));
         given = λ q. clash q refl;
@@ -112,7 +107,7 @@ module _ (h n : ℕ) (l : h < 8) (d : n ≢ 0) (s : State) (r : Inv s) where
   -- ---- every call
   flow-cases : Cases s (Flow h n s)
   flow-cases = record {
-    whenQuiet = λ c a hs last x noted q z. still-flow h n s r c _ z refl refl (q .noTime) (q .noEnd) (q .noClose h) (q .number n);
+    whenQuiet = λ c a t q z. still-flow h n s r c _ z refl refl (q .noTime) (q .noEnd) (q .noClose h) (q .sequence n);
     whenOpened = λ i p _ _ z. still-flow h n s r _ _ z refl refl refl refl refl (λ q. clash q refl);
     whenClosed = λ g _ _ z. close-flow h n l s g z;
     whenQueued = λ g x _ _ _ _ _ z. queued-flow g x z;

@@ -10,27 +10,11 @@ use Rattle.guarantee.specs.Claim.{enoughResults}
 use Rattle.guarantee.specs.Room.{handleWaits, allWaits}
 use Rattle.guarantee.specs.Seen.{came, gave, results, okResults, replies, busResults, closings, elapsed, own, sinceOpen, joined}
 use Rattle.lists.specs.Sums.{count}
-use Rattle.message.specs.Message.{message}
-use Rattle.message.specs.Reply.{isReply}
-use Rattle.rules.specs.BusResult.{doBusResult, isFinal, keptCounts}
-use Rattle.rules.specs.BusStart.{doBusStart}
-use Rattle.rules.specs.Call.{Call, Request, unless, check, accepted, callOpen, callClose, callTransmit, callReceive, callBusStart, callBusResult, callMessage, callTime, callConfigure, callUnconfigure}
-use Rattle.rules.specs.Close.{doClose}
-use Rattle.rules.specs.Configure.{doConfigure}
-use Rattle.rules.specs.Core.{sends, answers, notes}
-use Rattle.rules.specs.Deliver.{copyTo, copies}
-use Rattle.rules.specs.Incoming.{doMessage, heard}
-use Rattle.rules.specs.Number.{numberAfter}
-use Rattle.rules.specs.Open.{doOpen}
-use Rattle.rules.specs.Owed.{roomOwed, repliesWanted, isTaken}
-use Rattle.rules.specs.Receive.{doReceive}
+use Rattle.rules.proofs.KnownAnswers.{every-rule}
+use Rattle.rules.specs.Call.{Call, Request, accepted, callOpen, callClose, callTransmit, callReceive, callBusStart, callBusResult, callMessage, callTime, callConfigure, callUnconfigure}
 use Rattle.rules.specs.State.{State, fresh}
 use Rattle.rules.specs.Step.{Step, after, step, run}
-use Rattle.rules.specs.Time.{doTime}
-use Rattle.rules.specs.Transmit.{doTransmit}
-use Rattle.rules.specs.Unconfigure.{doUnconfigure}
 use Rattle.wait.specs.Wait.{ownedBy}
-use Rattle.waits.specs.Waits.{matchTaken}
 
 -- a power status asked for, and the same message with no reply wanted
 abbrev pub asks : Request
@@ -71,8 +55,9 @@ sending = callBusStart ∷ callBusResult 0x01 noCounts ∷ callBusStart ∷ call
 abbrev answered : List Step
 answered = history (sending ++ (status ∷ status ∷ callReceive 0 ∷ []))
 
-both-answered : (seen 1 (drop 4 answered) ≡ 1 ∷ 1 ∷ 1 ∷ 2 ∷ 0 ∷ 0 ∷ []) × (seen 2 (drop 5 answered) ≡ 1 ∷ 1 ∷ 1 ∷ 2 ∷ 0 ∷ 0 ∷ []) × (entries 0 answered ≡ 2 ∷ 1 ∷ []) × (entries 1 answered ≡ 2 ∷ 0 ∷ [])
-unfolding message isReply matchTaken fresh roomOwed repliesWanted isTaken copyTo copies unless check doOpen doClose numberAfter doTransmit doReceive doBusStart doBusResult isFinal keptCounts doTime doConfigure doUnconfigure sends answers notes doMessage heard
+both-answered : (seen 1 (drop 4 answered) ≡ 1 ∷ 1 ∷ 1 ∷ 2 ∷ 0 ∷ 0 ∷ []) × (seen 2 (drop 5 answered) ≡ 1 ∷ 1 ∷ 1 ∷ 2 ∷ 0 ∷ 0 ∷ [])
+    × (entries 0 answered ≡ 2 ∷ 1 ∷ []) × (entries 1 answered ≡ 2 ∷ 0 ∷ [])
+unfolding every-rule
 both-answered = (refl, refl, refl, refl)
 
 -- handle 0 is closed before the replies; time passes: handle 1 has its timeout, number 1 nothing more
@@ -80,7 +65,7 @@ abbrev closed : List Step
 closed = history (sending ++ (callClose 0 ∷ callTime 400 ∷ callTime 600 ∷ status ∷ []))
 
 one-closed : (seen 1 (drop 4 closed) ≡ 1 ∷ 1 ∷ 0 ∷ 2 ∷ 1 ∷ 1000 ∷ []) × (seen 2 (drop 5 closed) ≡ 1 ∷ 1 ∷ 1 ∷ 2 ∷ 1 ∷ 1000 ∷ [])
-unfolding message isReply matchTaken fresh roomOwed repliesWanted isTaken copyTo copies unless check doOpen doClose numberAfter doTransmit doReceive doBusStart doBusResult isFinal keptCounts doTime doConfigure doUnconfigure sends answers notes doMessage heard
+unfolding every-rule
 one-closed = (refl, refl)
 
 -- an unconfigure ends the one on the wire and the one that waits
@@ -88,7 +73,7 @@ abbrev ended : List Step
 ended = history (callBusStart ∷ callBusResult 0x01 noCounts ∷ callBusStart ∷ callUnconfigure ∷ [])
 
 all-ended : (seen 1 (drop 4 ended) ≡ 1 ∷ 1 ∷ 1 ∷ 1 ∷ 0 ∷ 0 ∷ []) × (seen 2 (drop 5 ended) ≡ 1 ∷ 0 ∷ 0 ∷ 1 ∷ 0 ∷ 0 ∷ [])
-unfolding message isReply matchTaken fresh roomOwed repliesWanted isTaken copyTo copies unless check doOpen doClose numberAfter doTransmit doReceive doBusStart doBusResult isFinal keptCounts doTime doConfigure doUnconfigure sends answers notes doMessage heard
+unfolding every-rule
 all-ended = (refl, refl)
 
 -- ---- the numbers of the claim and of the room are reached
@@ -109,7 +94,7 @@ behind more = run (step busy (callTransmit 1 tells) .state) (again 18 (callBusRe
 last-of-nineteen : (length (busy .wire) ≡ 1) × (length (busy .queue) ≡ 17) × (step busy (callTransmit 1 tells) .answer ≡ accepted 19 0)
     × (busResults (behind []) + 1 ≡ enoughResults) × (results 19 (own 19 (behind [])) ≡ 0)
     × (busResults (behind (callBusResult 0x01 noCounts ∷ [])) ≡ enoughResults) × (results 19 (own 19 (behind (callBusResult 0x01 noCounts ∷ []))) ≡ 1)
-unfolding message fresh roomOwed repliesWanted isTaken copies unless check doOpen numberAfter doTransmit doBusStart doBusResult isFinal keptCounts doConfigure
+unfolding every-rule
 last-of-nineteen = (refl, refl, refl, refl, refl, refl, refl)
 
 -- a handle asks, and its message is sent; each of several handles, four times
@@ -126,5 +111,5 @@ full = after start (begin 8 (allAsking (0 ∷ 1 ∷ 2 ∷ 3 ∷ 4 ∷ 5 ∷ 6 �
 
 -- a handle has as many waits as it may, and the next wait takes the last place
 most-waits : (count (ownedBy 0) (full .waits) ≡ handleWaits) × (length (full .waits) + 1 ≡ allWaits) × (map (λ t. t .«wants_reply») (full .wire) ≡ true ∷ [])
-unfolding message fresh roomOwed repliesWanted isTaken copies unless check doOpen numberAfter doTransmit doBusStart doBusResult isFinal keptCounts doConfigure
+unfolding every-rule
 most-waits = (refl, refl, refl)

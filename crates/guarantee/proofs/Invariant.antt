@@ -14,9 +14,10 @@ use Rattle.lists.specs.Spread.{spread}
 use Rattle.lists.specs.Sums.{sum, length-sum, sum-le, sum-same, count}
 use Rattle.lists.specs.Tests.{bit, split, clash, cond-bit}
 use Rattle.rules.proofs.Numbers.{carriedBy, next-free, next-pos, free-carried}
+use Rattle.rules.specs.Derived.{roomTaken}
 use Rattle.rules.specs.Handles.{isOpen}
-use Rattle.rules.specs.Number.{nextNumber}
-use Rattle.rules.specs.Owed.{pending, repliesWanted, wantedReplies, roomTaken}
+use Rattle.rules.specs.Number.{nextSequence}
+use Rattle.rules.specs.Owed.{pending, repliesWanted, wantedReplies}
 use Rattle.rules.specs.State.{State, closedHandle}
 use Rattle.transmission.specs.Transmission.{replyFor}
 use Rattle.transmission.specs.declared.Transmission.{Transmission}
@@ -25,7 +26,7 @@ use Rattle.wait.specs.declared.Wait.{Wait}
 
 -- a transmission of a handle has a number, and a timeout if it wants a reply; one without owner has number 0 and wants none
 abbrev pub isProper : Transmission → Bool
-isProper t = cond (ltb (t .owner) 8) (not (eqb (t .number) 0) && (not (t .«wants_reply») || not (eqb (t .timeout) 0))) (eqb (t .number) 0 && not (t .«wants_reply»))
+isProper t = cond (ltb (t .owner) 8) (not (eqb (t .sequence) 0) && (not (t .«wants_reply») || not (eqb (t .timeout) 0))) (eqb (t .sequence) 0 && not (t .«wants_reply»))
 
 -- 1 for one that is not so
 abbrev pub improper : Transmission → ℕ
@@ -33,7 +34,7 @@ improper t = bit (not (isProper t))
 
 -- a wait is of a handle and has a number
 abbrev pub improperWait : Wait → ℕ
-improperWait w = bit (not (ltb (w .owner) 8 && not (eqb (w .number) 0)))
+improperWait w = bit (not (ltb (w .owner) 8 && not (eqb (w .sequence) 0)))
 
 -- a wait with no time left
 abbrev pub spent : Wait → ℕ
@@ -74,14 +75,15 @@ wants-improper t =
     split (leb 8 (t .owner))
     (λ e. rw (e, le-ltb (t .owner) 8 (leb-true 8 (t .owner) e))
     (split (t .«wants_reply»)
-    (λ q. split (eqb (t .number) 0) (λ z. rw (q, z) (omega arith)) (λ z. rw (q, z) (omega arith)))
+    (λ q. split (eqb (t .sequence) 0) (λ z. rw (q, z) (omega arith)) (λ z. rw (q, z) (omega arith)))
     (λ q. rw q (omega arith))))
     (λ e. rw e (omega arith))
 
 -- all waits are those of the handles together, and all wanted replies too
 waits-spread : (s : State) → Inv s → length (s .waits) ≤ upto (λ h. count (ownedBy h) (s .waits)) 8
 waits-spread s r =
-    let same : (h : ℕ) → sum (λ (w : Wait). cond (eqb (w .owner) h) 1 0) (s .waits) ≡ count (ownedBy h) (s .waits) = λ h. sum-same (λ (w : Wait). cond (eqb (w .owner) h) 1 0) (λ w. bit (ownedBy h w)) (s .waits) (λ w. cond-bit (eqb (w .owner) h)) in
+    let same : (h : ℕ) → sum (λ (w : Wait). cond (eqb (w .owner) h) 1 0) (s .waits) ≡ count (ownedBy h) (s .waits) =
+    λ h. sum-same (λ (w : Wait). cond (eqb (w .owner) h) 1 0) (λ w. bit (ownedBy h w)) (s .waits) (λ w. cond-bit (eqb (w .owner) h)) in
     omega (
       arith,
       length-sum (s .waits),
@@ -131,11 +133,11 @@ pub few-pending : (s : State) → Inv s → length (pending s) ≤ 19
 few-pending s r = omega (arith, length-append (s .wire) (s .queue), r .queued, r .wired)
 
 -- ---- the number that the next transmit is given: nothing carries it, and it is not 0
-pub next-unused : (s : State) → Inv s → carriedBy (pending s) (s .waits) (nextNumber s) ≡ 0
+pub next-unused : (s : State) → Inv s → carriedBy (pending s) (s .waits) (nextSequence s) ≡ 0
 next-unused s r =
     let a = few s r in
     let b = few-pending s r in
-    free-carried (pending s) (s .waits) (nextNumber s) (next-free (pending s) (s .waits) (s .last) (omega arith))
+    free-carried (pending s) (s .waits) (nextSequence s) (next-free (pending s) (s .waits) (s .last) (omega arith))
 
-pub next-some : (s : State) → nextNumber s ≢ 0
+pub next-some : (s : State) → nextSequence s ≢ 0
 next-some s = next-pos (pending s) (s .waits) (s .last)

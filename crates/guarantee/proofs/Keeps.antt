@@ -1,6 +1,6 @@
 -- Every call keeps the invariant.
 -- Assumes nothing.
-use Prim.Native.Nat.{ℕ, _≤_}
+use Prim.Native.Nat.{ℕ, _+_, _≤_}
 use mathlib.Core.Bool.{Bool, true, false, _&&_, not}
 use mathlib.Core.List.{List, [], _∷_, _++_}
 use mathlib.Core.Path.{_≡_, refl, ap, ap₂, _∙_, sym}
@@ -13,7 +13,7 @@ use Rattle.guarantee.proofs.BusResultEnds.{wait-proper}
 use Rattle.guarantee.proofs.ByCases.{by-cases}
 use Rattle.guarantee.proofs.Cases.{Cases, Quiet, calm}
 use Rattle.guarantee.proofs.ClosedKept.{closed-kept, reply-owned, numbered-owned}
-use Rattle.guarantee.proofs.Ends.{Ends, begins}
+use Rattle.guarantee.proofs.Ends.{Ends, Timeless, begins}
 use Rattle.guarantee.proofs.Invariant.{Inv, isProper, improper, improperWait, spent}
 use Rattle.guarantee.proofs.QueuedKept.{queued-kept}
 use Rattle.handle.specs.declared.Handle.{Handle}
@@ -29,7 +29,6 @@ use Rattle.rules.specs.Open.{openedHandle}
 use Rattle.rules.specs.Owed.{pending, owedRoom, repliesWanted}
 use Rattle.rules.specs.State.{State, closedHandle, withHandles, withInboxes, withQueue, withWire}
 use Rattle.rules.specs.Step.{step}
-use Rattle.settings.specs.declared.Settings.{Settings}
 use Rattle.transmission.specs.Transmission.{replyFor, numbered}
 use Rattle.transmission.specs.declared.Transmission.{Transmission}
 use Rattle.wait.specs.Wait
@@ -56,9 +55,9 @@ same-kept s t r handles inboxes queue wire p w less shut =
     }
 
 -- modes, settings and noted addresses
-quiet-kept : (s : State) (c : Call) (a : Answer) (hs : List Handle) (last : ℕ) (x : Settings) (noted : List ℕ) → Inv s → Quiet s c a hs → Inv (calm s hs last x noted)
-quiet-kept s c a hs last x noted r q =
-    same-kept s (calm s hs last x noted) r (q .handles ∙ r .handles) (r .inboxes) (r .queued) (r .wired) refl refl (λ h. omega arith) (λ h e. sym (q .still h) ∙ e)
+quiet-kept : (s : State) (c : Call) (a : Answer) (t : State) → Inv s → Quiet s c a t → Inv (calm s t)
+quiet-kept s c a t r q =
+    same-kept s (calm s t) r (q .handles ∙ r .handles) (r .inboxes) (r .queued) (r .wired) refl refl (λ h. omega arith) (λ h e. sym (q .still h) ∙ e)
 
 -- an open
 opened-kept : (s : State) (i : ℕ) (p : Bool) → Inv s → Inv (withHandles s (set (s .handles) i (openedHandle p)))
@@ -84,7 +83,7 @@ begins-proper status x =
     split (hasBit CEC-TX-STATUS-OK status && x .«wants_reply»)
     (λ e. rw e (split (isProper x)
     (λ p. omega (arith, wait-proper x (rw p) (both (hasBit CEC-TX-STATUS-OK status) (x .«wants_reply») e .1) .1))
-    (λ p. rw p (less (ltb (x .owner) 8 && not (eqb (x .number) 0))))))
+    (λ p. rw p (less (ltb (x .owner) 8 && not (eqb (x .sequence) 0))))))
     (λ e. rw e (omega arith))
   where
     less : (b : Bool) → bit (not b) ≤ 1
@@ -102,7 +101,11 @@ begins-asked h status x =
     (λ e. rw e (omega arith)))
     (λ q. split (hasBit CEC-TX-STATUS-OK status) (λ e. rw (e, q) (omega arith)) (λ e. rw e (omega arith)))
 
--- a call that ends transmissions and waits
+-- a call that ends transmissions and waits: what waits afterwards waited before, or comes of what was sent
+most-waits : (s t : State) (c : Call) (e : Ends s c t) (f : Wait → ℕ) (g : Transmission → ℕ) → Timeless f → ((status : ℕ) (x : Transmission) → begins f status x ≤ g x)
+    → sum f (t .waits) ≤ sum f (s .waits) + sum g (e .sent)
+most-waits s t c e f g z k = omega (arith, e .waits f z, sum-le (begins f (e .by .status)) g (e .sent) (k (e .by .status)))
+
 ended-kept : (s t : State) (c : Call) → Inv s → Ends s c t → Inv t
 unfolding repliesWanted carriedBy
 ended-kept s t c r e = record {
@@ -111,22 +114,15 @@ ended-kept s t c r e = record {
   queued = e .queued;
   wired = e .wired;
   transmissions = omega (arith, r .transmissions, e .sends improper (λ m. refl));
-  waiting = omega (arith, r .waiting, r .transmissions, e .sends improper (λ m. refl), e .waits improperWait (λ ms w. refl), sum-le (begins improperWait (e .status)) improper (e .sent) (begins-proper (e .status)));
+  waiting = omega (arith, r .waiting, r .transmissions, e .sends improper (λ m. refl), most-waits s t c e improperWait improper (λ ms w. refl) begins-proper);
   timed = e .timed;
   once = λ n d. omega (
     arith,
     r .once n d,
     e .sends (λ x. bit (numbered n x)) (numbered-owned n d),
-    e .waits (λ w. bit (Wait.numbered n w)) (λ ms w. refl),
-    sum-le (begins (λ w. bit (Wait.numbered n w)) (e .status)) (λ x. bit (numbered n x)) (e .sent) (begins-numbered n (e .status)),
+    most-waits s t c e (λ w. bit (Wait.numbered n w)) (λ x. bit (numbered n x)) (λ ms w. refl) (begins-numbered n),
   );
-  asks = λ h l. omega (
-    arith,
-    r .asks h l,
-    e .sends (replyFor h) (reply-owned h l),
-    e .waits (λ w. bit (ownedBy h w)) (λ ms w. refl),
-    sum-le (begins (λ w. bit (ownedBy h w)) (e .status)) (replyFor h) (e .sent) (begins-asked h (e .status)),
-  );
+  asks = λ h l. omega (arith, r .asks h l, e .sends (replyFor h) (reply-owned h l), most-waits s t c e (λ w. bit (ownedBy h w)) (replyFor h) (λ ms w. refl) (begins-asked h));
   room = λ h l. e .comes h l .room;
   none = λ h l z. e .comes h l .none (sym (same-open s t (e .modes) h) ∙ z);
 }
@@ -134,7 +130,7 @@ ended-kept s t c r e = record {
 -- every call
 kept-cases : (s : State) → Inv s → Cases s (λ c o. Inv (o .state))
 kept-cases s r = record {
-  whenQuiet = λ c a hs last x noted q _. quiet-kept s c a hs last x noted r q;
+  whenQuiet = λ c a t q _. quiet-kept s c a t r q;
   whenOpened = λ i p _ _ _. opened-kept s i p r;
   whenClosed = λ g l _ _. closed-kept s g l r;
   whenQueued = λ g x l o f w m _. queued-kept s g x l o f w m r;

@@ -1,38 +1,37 @@
 -- A message from the wire ends the oldest wait that it matches, if there is one, with its reply.
 -- Assumes nothing.
 use Prim.Native.Nat.{ℕ, _+_, _-_, _≤_, _<_}
-use mathlib.Core.Bool.{true, false}
+use mathlib.Core.Bool.{Bool, true, false}
 use mathlib.Core.List.{List, [], _∷_, map}
 use mathlib.Core.Path.{_≡_, refl, _∙_}
 use native.Mathlib.Omega.{arith}
-use lib.Dec.{eqb, ltb}
+use lib.Dec.{ltb}
 use lib.ListN.{length, getD, length-set}
 use borrow.Author.Tests.{ltb-true}
-use Rattle.constants.specs.Kernel.{CEC-MSG-FEATURE-ABORT}
-use Rattle.entry.specs.Entry.{noCounts, result, messageCopy}
+use Rattle.entry.specs.Entry.{messageCopy}
 use Rattle.entry.specs.declared.Entry.{Entry}
 use Rattle.guarantee.proofs.Carried.{awaitedAs, waitingAs}
 use Rattle.guarantee.proofs.Comes.{comes, comes-then}
-use Rattle.guarantee.proofs.Ends.{Ends, Replies, shown-reply, aside-ends}
+use Rattle.guarantee.proofs.Ends.{Ends, Replies, shown-reply, aborts, aside-ends}
 use Rattle.guarantee.proofs.Invariant.{Inv, spent}
 use Rattle.lists.specs.Last.{last-more}
 use Rattle.lists.specs.Places.{first, without, sum-without}
 use Rattle.lists.specs.Sums.{count}
 use Rattle.lists.specs.Tests.{bit, split}
-use Rattle.message.specs.Message.{opcode}
+use Rattle.message.specs.Message.{opcode, isFeatureAbort}
 use Rattle.message.specs.declared.Message.{Message}
 use Rattle.rules.proofs.Aside.{Aside, aside-trans, aside-pending, aside-sum, core-weightless, room-owned, copies-aside, notes-aside, answers-aside, followed-aside, refusedMessage-aside}
-use Rattle.rules.proofs.Entries.{result-shows, replyEntry-shows, messageCopy-shows}
+use Rattle.rules.proofs.Entries.{replyEntry-shows, messageCopy-shows}
 use Rattle.rules.proofs.SameModes.{modes-trans, same-open}
 use Rattle.rules.specs.Call.{Call, callMessage}
 use Rattle.rules.specs.Core.{answers, notes}
 use Rattle.rules.specs.Deliver.{deliver, copies}
 use Rattle.rules.specs.Handles.{inRole}
-use Rattle.rules.specs.Incoming.{heard, handled, stops, replied, replyEntry, followed, refusedMessage, monitors}
+use Rattle.rules.specs.Incoming.{heardWith, handled, stops, replied, replyEntry, followed, refusedMessage, monitors}
 use Rattle.rules.specs.Owed.{pending, roomOwed, owedRoom}
 use Rattle.rules.specs.State.{State, withWaits}
+use Rattle.rules.specs.Unconfigure.{abortedResult}
 use Rattle.transmission.specs.Transmission.{ownerless, roomFor}
-use Rattle.transmission.specs.declared.Transmission.{Transmission}
 use Rattle.wait.specs.Wait.{noWait, answeredBy, ownedBy}
 use Rattle.wait.specs.declared.Wait.{Wait}
 use Rattle.waits.specs.Waits.{Taken, takenAt, matchTaken}
@@ -42,13 +41,8 @@ pub ends-then : (s t u : State) (c : Call) → Ends s c t → Aside t u → Ends
 unfolding waitingAs
 ends-then s t u c e a = record {
   sent = e .sent;
-  status = e .status;
   over = e .over;
-  final = e .final;
-  resultOf = e .resultOf;
-  replyOf = e .replyOf;
-  results = e .results;
-  replies = e .replies;
+  by = e .by;
   comes = λ h l. comes-then h l s t u _ (e .comes h l) (same-open s t (e .modes) h) a;
   closes = e .closes;
   modes = modes-trans s t u (e .modes) (a .modes);
@@ -65,7 +59,7 @@ ends-then s t u c e a = record {
 
 -- the reply's entry shows a receive status
 reply-shown : (n : ℕ) (m : Message) → Replies n (replyEntry n m)
-reply-shown n m = shown-reply (replyEntry-shows n m) (split (eqb (opcode (m .bytes)) CEC-MSG-FEATURE-ABORT) (λ e. rw e (omega arith)) (λ e. rw e (omega arith)))
+reply-shown n m = shown-reply (replyEntry-shows n m) (split (isFeatureAbort (opcode (m .bytes))) (λ e. rw e (omega arith)) (λ e. rw e (omega arith)))
 
 module _ (s : State) (r : Inv s) (m : Message) (k : ℕ) (bytes : List ℕ) where
   abbrev call : Call
@@ -79,11 +73,8 @@ module _ (s : State) (r : Inv s) (m : Message) (k : ℕ) (bytes : List ℕ) wher
     abbrev rest : List Wait
     rest = without i (s .waits)
 
-    abbrev resultOf : Transmission → Entry
-    resultOf x = result (x .number) 1 noCounts (x .message)
-
     abbrev replyOf : Wait → Entry
-    replyOf w = replyEntry (w .number) m
+    replyOf w = replyEntry (w .sequence) m
 
     abbrev after : State
     after = deliver (withWaits c rest) (wait .owner) (replyOf wait)
@@ -97,16 +88,11 @@ module _ (s : State) (r : Inv s) (m : Message) (k : ℕ) (bytes : List ℕ) wher
     unfolding waitingAs
     reply-ends = record {
       sent = [];
-      status = 1;
       over = wait ∷ [];
-      final = omega arith;
-      resultOf = resultOf;
-      replyOf = replyOf;
-      results = λ x. result-shows (x .number) 1 noCounts (x .message);
-      replies = λ w. reply-shown (w .number) m;
-      comes = λ h q. comes resultOf replyOf h q s c (withWaits c rest) after [] (wait ∷ []) r a refl refl (owed-less h q);
+      by = aborts replyOf (λ w. reply-shown (w .sequence) m);
+      comes = λ h q. comes abortedResult replyOf h q s c (withWaits c rest) after [] (wait ∷ []) r a refl refl (owed-less h q);
       closes = λ h. refl;
-      modes = record { capabilities = a .modes .capabilities; handles = a .modes .handles };
+      modes = a .modes;
       inboxes = length-set (c .inboxes) (wait .owner) _ ∙ a .inboxes ∙ r .inboxes;
       queued = a .fits (r .queued);
       wired = rw (a .wire) (r .wired);
@@ -119,42 +105,42 @@ module _ (s : State) (r : Inv s) (m : Message) (k : ℕ) (bytes : List ℕ) wher
     }
 
   -- steps 4 to 6
-  abbrev later : State → Taken → State
-  later t x = refusedMessage (followed (answers (notes t m) m) x m) x m
+  abbrev later : State → Bool → List ℕ → Taken → State
+  later t said reply x = refusedMessage (followed (answers (notes t m) said reply) said x m) said x m
 
   -- they end no wait
-  later-aside : (t : State) (x : Taken) → Aside t (later t x)
-  later-aside t x =
+  later-aside : (t : State) (said : Bool) (reply : List ℕ) (x : Taken) → Aside t (later t said reply x)
+  later-aside t said reply x =
       let b = notes t m in
-      let c = answers b m in
-      let d = followed c x m in
-      aside-trans t b (later t x) (notes-aside t m)
-      (aside-trans b c (later t x) (answers-aside b m)
-      (aside-trans c d (later t x) (followed-aside c x m) (refusedMessage-aside d x m)))
+      let c = answers b said reply in
+      let d = followed c said x m in
+      aside-trans t b (later t said reply x) (notes-aside t m)
+      (aside-trans b c (later t said reply x) (answers-aside b said reply)
+      (aside-trans c d (later t said reply x) (followed-aside c said x m) (refusedMessage-aside d said x m)))
 
   -- steps 3 to 6: a wait is found, or none
-  handled-ends : (c : State) → Aside s c → (i : ℕ) → Ends s call (handled c (takenAt i (s .waits)) m)
-  handled-ends c a i =
+  handled-ends : (c : State) → Aside s c → (said : Bool) (reply : List ℕ) (i : ℕ) → Ends s call (handled c said reply (takenAt i (s .waits)) m)
+  handled-ends c a said reply i =
       split (ltb i (length (s .waits)))
       (λ q. found q (ltb-true i (length (s .waits)) q))
       (λ q. none q)
     where
-      found : ltb i (length (s .waits)) ≡ true → i < length (s .waits) → Ends s call (later (replied c (takenAt i (s .waits)) m) (takenAt i (s .waits)))
+      found : ltb i (length (s .waits)) ≡ true → i < length (s .waits) → Ends s call (later (replied c (takenAt i (s .waits)) m) said reply (takenAt i (s .waits)))
       found q l =
           let e : replied c (takenAt i (s .waits)) m ≡ after c a i l = rw q in
-          rw e (ends-then s (after c a i l) _ call (reply-ends c a i l) (later-aside (after c a i l) (takenAt i (s .waits))))
+          rw e (ends-then s (after c a i l) _ call (reply-ends c a i l) (later-aside (after c a i l) said reply (takenAt i (s .waits))))
 
-      none : ltb i (length (s .waits)) ≡ false → Ends s call (later (replied c (takenAt i (s .waits)) m) (takenAt i (s .waits)))
+      none : ltb i (length (s .waits)) ≡ false → Ends s call (later (replied c (takenAt i (s .waits)) m) said reply (takenAt i (s .waits)))
       none q =
           let e : replied c (takenAt i (s .waits)) m ≡ c = rw q in
-          rw e (aside-ends s _ call r (aside-trans s c _ a (later-aside c (takenAt i (s .waits)))) (λ h. refl) refl refl)
+          rw e (aside-ends s _ call r (aside-trans s c _ a (later-aside c said reply (takenAt i (s .waits)))) (λ h. refl) refl refl)
 
   -- a message that is taken
-  pub message-ends : Ends s call (heard s m)
-  unfolding heard matchTaken
-  message-ends =
+  pub message-ends : (said : Bool) (reply : List ℕ) → Ends s call (heardWith s said reply m)
+  unfolding heardWith matchTaken
+  message-ends said reply =
       let c = copies (inRole (monitors s m)) (messageCopy m) s in
       let a = copies-aside (monitors s m) (messageCopy m) (messageCopy-shows m .sequence) s in
       split (stops s m)
       (λ q. rw q (aside-ends s c call r a (λ h. refl) refl refl))
-      (λ q. rw q (handled-ends c a (first (answeredBy m) (s .waits))))
+      (λ q. rw q (handled-ends c a said reply (first (answeredBy m) (s .waits))))

@@ -18,6 +18,7 @@ use Rattle.handle.specs.declared.Handle.{Handle}
 use Rattle.lists.specs.Sums.{count}
 use Rattle.lists.specs.Tests.{split, clash}
 use Rattle.rules.proofs.Checks.{unless-done}
+use Rattle.rules.proofs.SameModes.{modes-refl}
 use Rattle.rules.specs.Call.{Call, check, done, finish}
 use Rattle.rules.specs.Handles.{handleAt, isOpen, isExclusiveInitiator, isExclusiveFollower, inRole, another}
 use Rattle.rules.specs.Mode.{doMode, modeRefusal}
@@ -27,12 +28,12 @@ use Rattle.rules.specs.Step.{after, step}
 -- every call keeps them
 held-cases : (s : State) → ModesHeld s → Cases s (λ c o. ModesHeld (o .state))
 held-cases s k = record {
-  whenQuiet = λ c a hs last x noted q _. same-held (withHandles s hs) (calm s hs last x noted) (record { capabilities = refl; handles = refl }) (q .modes k);
+  whenQuiet = λ c a t q _. same-held t (calm s t) (modes-refl t) (q .modes k);
   whenOpened = λ i p _ _ _. opened-held s i p k;
   whenClosed = λ g _ _ _. closed-held s g k;
-  whenQueued = λ g r _ _ _ _ _ _. same-held s _ (record { capabilities = refl; handles = refl }) k;
-  whenReceived = λ g e es _ _ _ _. same-held s _ (record { capabilities = refl; handles = refl }) k;
-  whenStarted = λ x q _ _ _. same-held s _ (record { capabilities = refl; handles = refl }) k;
+  whenQueued = λ g r _ _ _ _ _ _. same-held s _ (modes-refl s) k;
+  whenReceived = λ g e es _ _ _ _. same-held s _ (modes-refl s) k;
+  whenStarted = λ x q _ _ _. same-held s _ (modes-refl s) k;
   whenEnded = λ c t e. same-held s t (e .modes) k;
 }
 

@@ -12,7 +12,7 @@ use Rattle.handle.specs.declared.Handle.{Handle}
 use Rattle.lists.specs.Elements.{set-rel}
 use Rattle.lists.specs.Tests.{both, neither, clash}
 use Rattle.rules.proofs.Checks.{passed}
-use Rattle.rules.proofs.SameModes.{SameModes, same-handle, same-open, same-roles}
+use Rattle.rules.proofs.SameModes.{SameModes, modes-refl, same-handle, same-open, same-roles}
 use Rattle.rules.specs.Close.{closed}
 use Rattle.rules.specs.Handles.{handleAt, isOpen, isMonitor, isExclusiveInitiator, isExclusiveFollower, inRole, another}
 use Rattle.rules.specs.Mode.{isModeInvalid, isRoleHeld, modeRefusal, inMode}
@@ -56,7 +56,7 @@ module _ (s : State) where
 
   pub closed-held : (g : ℕ) → ModesHeld s → ModesHeld (closed s g)
   closed-held g k =
-      same-held (withHandles s (set (s .handles) g closedHandle)) (closed s g) (record { capabilities = refl; handles = refl })
+      same-held (withHandles s (set (s .handles) g closedHandle)) (closed s g) (modes-refl (closed s g))
       (set-held g closedHandle (λ e. clash e refl) (λ e. clash e refl) (λ e. clash e refl) (λ e. clash e refl) k)
 
   -- a mode that passed the checks

@@ -8,8 +8,7 @@ use native.Mathlib.Omega.{arith}
 use lib.Dec.{eqb, ltb}
 use lib.ListN.{length}
 use borrow.Author.Tests.{eqb-true, ltb-true}
-use Rattle.constants.specs.Kernel.{CEC-TX-STATUS-ABORTED}
-use Rattle.entry.specs.Entry.{noCounts, result, resultCopy, timedOut, aborted, messageCopy}
+use Rattle.entry.specs.Entry.{resultCopy, messageCopy}
 use Rattle.entry.specs.declared.Entry.{Entry}
 use Rattle.guarantee.proofs.BusResultEnds.{wait-fits}
 use Rattle.guarantee.proofs.Invariant.{Inv, improperWait}
@@ -29,8 +28,8 @@ use Rattle.rules.specs.Incoming.{monitors}
 use Rattle.rules.specs.Owed.{pending, roomOwed, owedRoom, repliesWanted}
 use Rattle.rules.specs.State.{State, fresh, withWaits}
 use Rattle.rules.specs.Step.{after}
-use Rattle.rules.specs.Time.{overdue, remaining, timeOut}
-use Rattle.rules.specs.Unconfigure.{abortTransmit, abortWait, unset}
+use Rattle.rules.specs.Time.{overdue, remaining, timeOut, timeoutEntry}
+use Rattle.rules.specs.Unconfigure.{abortTransmit, abortWait, unset, abortedResult, abortEntry}
 use Rattle.transmission.specs.Transmission.{roomFor}
 use Rattle.transmission.specs.declared.Transmission.{Transmission}
 use Rattle.wait.specs.Wait.{ownedBy}
@@ -79,23 +78,22 @@ module _ (s : State) (r : Inv s) where
   timeout-room ms past w rest e =
       let own = sum-time ms improperWait (λ k v. refl) (s .waits) in
       let l = wait-home w (omega (arith, sum-one-of improperWait (overdue ms (s .waits)) past w rest e, r .waiting)) in
-      each-room (λ (v : Wait). v .owner) (λ v. timedOut (v .number) (v .sent)) (withWaits s (remaining ms (s .waits))) (overdue ms (s .waits)) past w rest e (omega (arith, r .inboxes))
+      each-room (λ (v : Wait). v .owner) timeoutEntry (withWaits s (remaining ms (s .waits))) (overdue ms (s .waits)) past w rest e (omega (arith, r .inboxes))
       (omega (arith, fits (w .owner) l, sum-time ms (λ v. bit (ownedBy (w .owner) v)) (λ k v. refl) (s .waits)))
 
   -- when an unconfigure ends transmissions, and then waits
   transmit-room : (past : List Transmission) (t : Transmission) (rest : List Transmission) → pending s ≡ past ++ t ∷ rest → t .owner < 8 → HasRoom (t .owner) (each abortTransmit (unset s) past)
   transmit-room past t rest e l =
-      each-room (λ (x : Transmission). x .owner) (λ x. result (x .number) CEC-TX-STATUS-ABORTED noCounts (x .message)) (unset s) (pending s) past t rest e (omega (arith, r .inboxes))
+      each-room (λ (x : Transmission). x .owner) abortedResult (unset s) (pending s) past t rest e (omega (arith, r .inboxes))
       (omega (arith, fits (t .owner) l))
 
   wait-room : (past : List Wait) (w : Wait) (rest : List Wait) → s .waits ≡ past ++ w ∷ rest → HasRoom (w .owner) (each abortWait (each abortTransmit (unset s) (pending s)) past)
   wait-room past w rest e =
       let l = home past w rest e in
       let to : Transmission → ℕ = λ x. x .owner in
-      let entry : Transmission → Entry = λ x. result (x .number) CEC-TX-STATUS-ABORTED noCounts (x .message) in
       let f = fits (w .owner) l in
-      let n = posts-length to entry (w .owner) (unset s) (pending s) (omega (arith, r .inboxes)) (omega arith) in
-      each-room (λ (v : Wait). v .owner) (λ v. aborted (v .number) (v .sent)) (each abortTransmit (unset s) (pending s)) (s .waits) past w rest e (omega (arith, posts-boxes to entry (unset s) (pending s), r .inboxes))
+      let n = posts-length to abortedResult (w .owner) (unset s) (pending s) (omega (arith, r .inboxes)) (omega arith) in
+      each-room (λ (v : Wait). v .owner) abortEntry (each abortTransmit (unset s) (pending s)) (s .waits) past w rest e (omega (arith, posts-boxes to abortedResult (unset s) (pending s), r .inboxes))
       (omega arith)
 
   -- a handle's waits are among the replies that it wants; a number over 7 has none
@@ -113,7 +111,9 @@ module _ (s : State) (r : Inv s) where
   room : Room s
   room = record {
     owed = r .room;
-    result = λ t e l status counts. copied-room _ (copies-aside isMonitor (resultCopy status counts (t .message)) (resultCopy-shows status counts (t .message) .sequence) s) (t .owner) l (owed-transmit [] t (s .queue) (ap (λ (ts : List Transmission). ts ++ s .queue) e));
+    result = λ t e l status counts.
+        copied-room _ (copies-aside isMonitor (resultCopy status counts (t .message)) (resultCopy-shows status counts (t .message) .sequence) s) (t .owner) l
+        (owed-transmit [] t (s .queue) (ap (λ (ts : List Transmission). ts ++ s .queue) e));
     wait = λ t e w. omega (arith, wait-fits s t r e w);
     reply = λ past w rest e m. copied-room _ (copies-aside (monitors s m) (messageCopy m) (messageCopy-shows m .sequence) s) (w .owner) (home past w rest e) (owed-wait past w rest e);
     timeout = timeout-room;

@@ -13,7 +13,7 @@ use borrow.Author.Tests.{eqb-true, eqb-false}
 use Rattle.entry.specs.declared.Entry.{Entry}
 use Rattle.guarantee.proofs.Brought.{ended-came}
 use Rattle.guarantee.proofs.ByCases.{by-cases}
-use Rattle.guarantee.proofs.Cases.{Cases, Silent, stepFrom}
+use Rattle.guarantee.proofs.Cases.{Cases, Silent, InSilence, stepFrom}
 use Rattle.guarantee.proofs.Ends.{Ends}
 use Rattle.guarantee.proofs.Invariant.{Inv}
 use Rattle.guarantee.proofs.Keeps.{keeps}
@@ -42,8 +42,8 @@ pub record InOrder (h : ℕ) (s : State) (c : Call) (o : Outcome) : Type 0 where
 
 module _ (h : ℕ) (l : h < 8) (s : State) (r : Inv s) where
   -- the inbox as it was
-  same-order : (c : Call) (o : Outcome) → Silent s c o → inboxOf (o .state .inboxes) h ≡ inboxOf (s .inboxes) h → gave h (stepFrom s c o) ≡ [] → isOpen (o .state) h ≡ isOpen s h → doneBy (isClose h c) (o .answer) ≡ false → opensTo h (o .answer) ≡ false
-      → InOrder h s c o
+  same-order : (c : Call) (o : Outcome) → Silent s c o → inboxOf (o .state .inboxes) h ≡ inboxOf (s .inboxes) h → gave h (stepFrom s c o) ≡ []
+      → isOpen (o .state) h ≡ isOpen s h → doneBy (isClose h c) (o .answer) ≡ false → opensTo h (o .answer) ≡ false → InOrder h s c o
   same-order c o z i g e k n = record {
     order = λ _. rw (z h, g, i) (append-nil (inboxOf (s .inboxes) h));
     was = λ _ a. (sym e ∙ a, k);
@@ -51,14 +51,14 @@ module _ (h : ℕ) (l : h < 8) (s : State) (r : Inv s) where
   }
 
   -- open, close, receive, and the calls that end transmissions and waits
-  opened-order : (i : ℕ) (p : Bool) → isOpen s i ≡ false → Silent s (callOpen p) (finish (opened i) (withHandles s (set (s .handles) i (openedHandle p)))) → InOrder h s (callOpen p) (finish (opened i) (withHandles s (set (s .handles) i (openedHandle p))))
+  opened-order : (i : ℕ) (p : Bool) → isOpen s i ≡ false → InSilence s (InOrder h s) (callOpen p) (finish (opened i) (withHandles s (set (s .handles) i (openedHandle p))))
   opened-order i p c z = record {
     order = λ _. rw (z h) (append-nil (inboxOf (s .inboxes) h));
     was = λ n a. (ap (λ (x : Handle). x .«is_open») (sym (getD-set-other (s .handles) i h (openedHandle p) closedHandle (λ e. eqb-false i h n (sym e)))) ∙ a, refl);
     new = λ n. let e = eqb-true i h n in empty-list (inboxOf (s .inboxes) h) (omega (arith, r .none h l (rw e at c)));
   }
 
-  closed-order : (g : ℕ) → g < 8 → Silent s (callClose g) (finish done (closed s g)) → InOrder h s (callClose g) (finish done (closed s g))
+  closed-order : (g : ℕ) → g < 8 → InSilence s (InOrder h s) (callClose g) (finish done (closed s g))
   closed-order g k z =
       split (eqb g h)
       (λ e. record {
@@ -68,9 +68,10 @@ module _ (h : ℕ) (l : h < 8) (s : State) (r : Inv s) where
       })
       (λ e.
       let d : h ≢ g = λ p. eqb-false g h e (sym p) in
-      same-order (callClose g) (finish done (closed s g)) z (getD-set-other (s .inboxes) g h [] [] d) refl (ap (λ (x : Handle). x .«is_open») (getD-set-other (s .handles) g h closedHandle closedHandle d)) e refl)
+      same-order _ _ z (getD-set-other (s .inboxes) g h [] [] d) refl (ap (λ (x : Handle). x .«is_open») (getD-set-other (s .handles) g h closedHandle closedHandle d)) e refl)
 
-  received-order : (g : ℕ) (x : Entry) (es : List Entry) → g < 8 → inboxOf (s .inboxes) g ≡ x ∷ es → Silent s (callReceive g) (finish (received x) (withInboxes s (set (s .inboxes) g es))) → InOrder h s (callReceive g) (finish (received x) (withInboxes s (set (s .inboxes) g es)))
+  received-order : (g : ℕ) (x : Entry) (es : List Entry) → g < 8 → inboxOf (s .inboxes) g ≡ x ∷ es
+      → InSilence s (InOrder h s) (callReceive g) (finish (received x) (withInboxes s (set (s .inboxes) g es)))
   received-order g x es k i z =
       split (eqb g h)
       (λ e.
@@ -82,7 +83,7 @@ module _ (h : ℕ) (l : h < 8) (s : State) (r : Inv s) where
         was = λ _ q. (q, refl);
         new = λ n. clash n refl;
       })
-      (λ e. same-order (callReceive g) (finish (received x) (withInboxes s (set (s .inboxes) g es))) z (getD-set-other (s .inboxes) g h es [] (λ p. eqb-false g h e (sym p))) (rw e) refl refl refl)
+      (λ e. same-order _ _ z (getD-set-other (s .inboxes) g h es [] (λ p. eqb-false g h e (sym p))) (rw e) refl refl refl)
 
   ended-order : (c : Call) (t : State) → Ends s c t → InOrder h s c (finish done t)
   ended-order c t e = record {
@@ -94,7 +95,7 @@ module _ (h : ℕ) (l : h < 8) (s : State) (r : Inv s) where
   -- every call
   order-cases : Cases s (InOrder h s)
   order-cases = record {
-    whenQuiet = λ c a hs last x noted q z. same-order c _ z refl (q .noGift h) (q .still h) (q .noClose h) (q .noOpen h);
+    whenQuiet = λ c a t q z. same-order c _ z refl (q .noGift h) (q .still h) (q .noClose h) (q .noOpen h);
     whenOpened = λ i p _ c z. opened-order i p c z;
     whenClosed = λ g k _ z. closed-order g k z;
     whenQueued = λ g x _ _ _ _ _ z. same-order _ _ z refl refl refl refl refl;
@@ -121,7 +122,8 @@ module _ (h : ℕ) (l : h < 8) where
       let ih = no-open t cs (keeps s c r) (m .1) o in
       let f = in-order h l s r c in
       let w = f .was (m .0) (ih .0) in
-      (w .0, chain (inboxOf (s .inboxes) h) (came h (stepOf s c)) (joined (came h) (run t cs)) (gave h (stepOf s c)) (inboxOf (t .inboxes) h) (joined (gave h) (run t cs)) (inboxOf (after t cs .inboxes) h) (f .order (w .1)) (ih .1))
+      let box : State → List Entry = λ u. inboxOf (u .inboxes) h in
+      (w .0, chain (box s) (came h (stepOf s c)) (joined (came h) (run t cs)) (gave h (stepOf s c)) (box t) (joined (gave h) (run t cs)) (box (after t cs)) (f .order (w .1)) (ih .1))
 
   -- from its last open on
   pub since-open : (s : State) (cs : List Call) → Inv s → any (opens h) (run s cs) ≡ true → isOpen (after s cs) h ≡ true

@@ -8,23 +8,24 @@ use native.Mathlib.Omega.{arith}
 use lib.Dec.{leb, ltb}
 use lib.ListN.{length}
 use borrow.Author.Tests.{ltb-false, leb-false, ne-eqb, le-ltb}
-use Rattle.entry.specs.Entry.{noCounts, result, timedOut}
 use Rattle.entry.specs.declared.Entry.{Entry}
 use Rattle.guarantee.proofs.Carried.{isOf, awaitedAs, waitingAs}
 use Rattle.guarantee.proofs.Comes.{comes}
-use Rattle.guarantee.proofs.Ends.{Ends, Timeless, shown-reply}
+use Rattle.guarantee.proofs.Ends.{Ends, Timeless, shown-reply, aborts}
 use Rattle.guarantee.proofs.Invariant.{Inv, spent}
 use Rattle.lists.specs.Order.{sum-sort}
 use Rattle.lists.specs.Sums.{sum, sum-map, sum-keep, sum-split, sum-same, sum-zero, sum-le, count, keep}
 use Rattle.lists.specs.Tests.{bit, split}
 use Rattle.rules.proofs.Aside.{aside-refl}
-use Rattle.rules.proofs.Entries.{result-shows, timedOut-shows}
+use Rattle.rules.proofs.Entries.{timeoutEntry-shows}
 use Rattle.rules.proofs.Mail.{posts-only, posts-boxes}
+use Rattle.rules.proofs.SameModes.{modes-refl}
 use Rattle.rules.specs.Call.{callTime}
 use Rattle.rules.specs.Deliver.{each}
 use Rattle.rules.specs.Owed.{roomOwed, owedRoom}
 use Rattle.rules.specs.State.{State, withInboxes, withWaits}
-use Rattle.rules.specs.Time.{overdue, remaining, timeOut}
+use Rattle.rules.specs.Time.{overdue, remaining, timeOut, timeoutEntry}
+use Rattle.rules.specs.Unconfigure.{abortedResult}
 use Rattle.wait.specs.Wait.{leftOf, reduced, ownedBy}
 use Rattle.wait.specs.declared.Wait.{Wait}
 
@@ -77,17 +78,12 @@ module _ (ms : ℕ) where
       let timed = withWaits s (remaining ms (s .waits)) in
       record {
         sent = [];
-        status = 1;
         over = overdue ms (s .waits);
-        final = omega arith;
-        resultOf = λ x. result (x .number) 1 noCounts (x .message);
-        replyOf = λ w. timedOut (w .number) (w .sent);
-        results = λ x. result-shows (x .number) 1 noCounts (x .message);
-        replies = λ w. shown-reply (timedOut-shows (w .number) (w .sent)) (omega arith);
-        comes = λ h l. comes (λ x. result (x .number) 1 noCounts (x .message)) (λ w. timedOut (w .number) (w .sent)) h l s s timed (withInboxes timed is) [] (overdue ms (s .waits)) r (aside-refl s) refl e (owed-time s h);
+        by = aborts timeoutEntry (λ w. shown-reply (timeoutEntry-shows w) (omega arith));
+        comes = λ h l. comes abortedResult timeoutEntry h l s s timed (withInboxes timed is) [] (overdue ms (s .waits)) r (aside-refl s) refl e (owed-time s h);
         closes = λ h. refl;
-        modes = record { capabilities = refl; handles = refl };
-        inboxes = ap length e ∙ posts-boxes (λ (w : Wait). w .owner) (λ w. timedOut (w .number) (w .sent)) timed (overdue ms (s .waits)) ∙ r .inboxes;
+        modes = modes-refl s;
+        inboxes = ap length e ∙ posts-boxes (λ (w : Wait). w .owner) timeoutEntry timed (overdue ms (s .waits)) ∙ r .inboxes;
         queued = r .queued;
         wired = r .wired;
         sends = λ f z. omega arith;
@@ -105,5 +101,5 @@ module _ (ms : ℕ) where
   -- time that passes
   pub time-ends : (s : State) → Inv s → Ends s (callTime ms) (each timeOut (withWaits s (remaining ms (s .waits))) (overdue ms (s .waits)))
   time-ends s r =
-      rw (posts-only (λ (w : Wait). w .owner) (λ w. timedOut (w .number) (w .sent)) (withWaits s (remaining ms (s .waits))) (overdue ms (s .waits)))
+      rw (posts-only (λ (w : Wait). w .owner) timeoutEntry (withWaits s (remaining ms (s .waits))) (overdue ms (s .waits)))
       (in-time s _ r refl)

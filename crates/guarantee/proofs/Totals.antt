@@ -121,7 +121,7 @@ module _ (h n : ℕ) (l : h < 8) (d : n ≢ 0) where
       split (givesTo n (step s c .answer))
       (λ e. rw e (omega (arith, f .given e .1, f .repliesOf)))
       (λ e. rw e (
-      let ih = all-replies (step s c .state) cs (b - milliseconds c) (keeps s c r) (omega (arith, f .results e)) (omega (arith, f .time b, sending-less (longer b) h n s)) (omega arith) (omega arith) in
+      let a = all-replies (step s c .state) cs (b - milliseconds c) (keeps s c r) (omega (arith, f .results e)) (omega (arith, f .time b, sending-less (longer b) h n s)) (omega arith) (omega arith) in
       omega (arith, f .replies, f .allReplies k, f .resultsOf, sending-less unwanting h n s)))
 
   -- after a close of the handle there are neither

@@ -7,33 +7,26 @@ use native.Mathlib.Omega.{arith}
 use lib.Dec.{eqb}
 use lib.ListN.{length}
 use Rattle.constants.specs.Kernel.{CEC-TX-STATUS-ABORTED}
-use Rattle.entry.specs.Entry.{noCounts, result, aborted}
 use Rattle.entry.specs.declared.Entry.{Entry}
 use Rattle.guarantee.proofs.Carried.{waitingAs}
 use Rattle.guarantee.proofs.Comes.{comes}
-use Rattle.guarantee.proofs.Ends.{Ends, begins, shown-reply}
+use Rattle.guarantee.proofs.Ends.{Ends, begins, shown-reply, aborts}
 use Rattle.guarantee.proofs.Invariant.{Inv}
 use Rattle.lists.specs.Sums.{sum-zero, sum-le, count}
 use Rattle.lists.specs.Tests.{bit, split}
 use Rattle.rules.proofs.Aside.{aside-refl}
-use Rattle.rules.proofs.Entries.{result-shows, aborted-shows}
+use Rattle.rules.proofs.Entries.{abortEntry-shows}
 use Rattle.rules.proofs.Mail.{posts-only, posts-boxes}
+use Rattle.rules.proofs.SameModes.{modes-refl}
 use Rattle.rules.specs.Call.{callUnconfigure}
 use Rattle.rules.specs.Deliver.{each}
 use Rattle.rules.specs.Owed.{pending, roomOwed, owedRoom}
 use Rattle.rules.specs.State.{State, withInboxes}
-use Rattle.rules.specs.Unconfigure.{abortTransmit, abortWait, unset}
+use Rattle.rules.specs.Unconfigure.{abortedResult, abortTransmit, abortEntry, abortWait, unset}
 use Rattle.transmission.specs.Transmission.{roomFor}
 use Rattle.transmission.specs.declared.Transmission.{Transmission}
 use Rattle.wait.specs.Wait.{ownedBy}
 use Rattle.wait.specs.declared.Wait.{Wait}
-
--- the entries of a result and of a wait's end
-abbrev resultOf : Transmission → Entry
-resultOf x = result (x .number) CEC-TX-STATUS-ABORTED noCounts (x .message)
-
-abbrev replyOf : Wait → Entry
-replyOf w = aborted (w .number) (w .sent)
 
 -- room is owed for each transmission
 pub owed-each : (h : ℕ) (x : Transmission) → bit (eqb (x .owner) h) ≤ roomFor h x
@@ -51,28 +44,23 @@ module _ (s : State) where
 
   only : after ≡ withInboxes (unset s) (after .inboxes)
   only =
-      posts-only (λ (w : Wait). w .owner) replyOf (each abortTransmit (unset s) (pending s)) (s .waits)
-      ∙ ap (λ (x : State). withInboxes x (after .inboxes)) (posts-only (λ (x : Transmission). x .owner) resultOf (unset s) (pending s))
+      posts-only (λ (w : Wait). w .owner) abortEntry (each abortTransmit (unset s) (pending s)) (s .waits)
+      ∙ ap (λ (x : State). withInboxes x (after .inboxes)) (posts-only (λ (x : Transmission). x .owner) abortedResult (unset s) (pending s))
 
   boxes : length (after .inboxes) ≡ length (s .inboxes)
   boxes =
-      posts-boxes (λ (w : Wait). w .owner) replyOf (each abortTransmit (unset s) (pending s)) (s .waits)
-      ∙ posts-boxes (λ (x : Transmission). x .owner) resultOf (unset s) (pending s)
+      posts-boxes (λ (w : Wait). w .owner) abortEntry (each abortTransmit (unset s) (pending s)) (s .waits)
+      ∙ posts-boxes (λ (x : Transmission). x .owner) abortedResult (unset s) (pending s)
 
   all-end : (is : List (List Entry)) → Inv s → is ≡ after .inboxes → Ends s callUnconfigure (withInboxes (unset s) is)
   unfolding waitingAs
   all-end is r e = record {
     sent = pending s;
-    status = CEC-TX-STATUS-ABORTED;
     over = s .waits;
-    final = omega arith;
-    resultOf = resultOf;
-    replyOf = replyOf;
-    results = λ x. result-shows (x .number) CEC-TX-STATUS-ABORTED noCounts (x .message);
-    replies = λ w. shown-reply (aborted-shows (w .number) (w .sent)) (omega arith);
-    comes = λ h l. comes resultOf replyOf h l s s (unset s) (withInboxes (unset s) is) (pending s) (s .waits) r (aside-refl s) refl e (owed-all s h);
+    by = aborts abortEntry (λ w. shown-reply (abortEntry-shows w) (omega arith));
+    comes = λ h l. comes abortedResult abortEntry h l s s (unset s) (withInboxes (unset s) is) (pending s) (s .waits) r (aside-refl s) refl e (owed-all s h);
     closes = λ h. refl;
-    modes = record { capabilities = refl; handles = refl };
+    modes = modes-refl s;
     inboxes = ap length e ∙ boxes ∙ r .inboxes;
     queued = omega arith;
     wired = omega arith;

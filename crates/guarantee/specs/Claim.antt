@@ -29,7 +29,14 @@ pub record Fate (h : ℕ) (r : Request) (n : ℕ) (later : List Step) : Type 0 w
   -- and that only if it asked for a reply and its result came earlier with the OK bit."
   pub replyAfterResult : (past : List Step) (x : Step) (rest : List Step) → own n later ≡ past ++ x ∷ rest → 1 ≤ replies n (x ∷ []) → (wantsReply r ≡ true) × (1 ≤ okResults n past)
   -- "If both hold, and its handle was not closed since, it has had exactly one as soon as the time calls after the result add up to its timeout or more."
-  pub oneReply : (past : List Step) (x : Step) (rest : List Step) → later ≡ past ++ x ∷ rest → count (gives n) past ≡ 0 → 1 ≤ okResults n (x ∷ []) → wantsReply r ≡ true → closings h later ≡ 0 → timeoutOf r ≤ elapsed rest → replies n (own n later) ≡ 1
+  pub oneReply : (past : List Step) (x : Step) (rest : List Step)
+      → later ≡ past ++ x ∷ rest
+      → count (gives n) past ≡ 0
+      → 1 ≤ okResults n (x ∷ [])
+      → wantsReply r ≡ true
+      → closings h later ≡ 0
+      → timeoutOf r ≤ elapsed rest
+      → replies n (own n later) ≡ 1
   -- "Both go to its own handle only, under its own number,
   pub ownHandle : (g : ℕ) → g ≢ h → (cameTo (isResult n) g (own n later) ≡ 0) × (cameTo (isReplyEntry n) g (own n later) ≡ 0)
   -- and never once that handle was closed after the transmit."

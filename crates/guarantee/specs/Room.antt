@@ -12,9 +12,10 @@ use Rattle.lists.specs.Sums.{count}
 use Rattle.message.specs.declared.Message.{Message}
 use Rattle.rules.specs.Call.{Call}
 use Rattle.rules.specs.Deliver.{copies, each}
+use Rattle.rules.specs.Derived.{roomTaken}
 use Rattle.rules.specs.Handles.{inRole, isMonitor}
 use Rattle.rules.specs.Incoming.{monitors}
-use Rattle.rules.specs.Owed.{pending, roomTaken}
+use Rattle.rules.specs.Owed.{pending}
 use Rattle.rules.specs.State.{State, Capabilities, fresh, withWaits}
 use Rattle.rules.specs.Step.{after}
 use Rattle.rules.specs.Time.{overdue, remaining, timeOut}

@@ -14,66 +14,45 @@ use Rattle.rules.specs.Deliver.{handleNumbers}
 use Rattle.rules.specs.Handles.{hasBit}
 use Rattle.rules.specs.Step.{Step}
 
--- ---- of a call: whether it is a receive or a close of handle h, a bus result, and its milliseconds
+-- ---- of a call
+pub record View : Type 0 where
+  -- whether it is a receive, a close, of handle h
+  pub receives : ℕ → Bool
+  pub shuts : ℕ → Bool
+  pub busResult : Bool
+  pub ms : ℕ
+
+-- none of these
+abbrev other : View
+other = record { receives = λ h. false; shuts = λ h. false; busResult = false; ms = 0 }
+
+abbrev pub view : Call → View
+view (callOpen p) = other
+view (callClose g) = record { receives = λ h. false; shuts = λ h. eqb g h; busResult = false; ms = 0 }
+view (callMode g m) = other
+view (callTransmit g r) = other
+view (callReceive g) = record { receives = λ h. eqb g h; shuts = λ h. false; busResult = false; ms = 0 }
+view callBusStart = other
+view (callBusResult status counts) = record { receives = λ h. false; shuts = λ h. false; busResult = true; ms = 0 }
+view (callMessage n bytes) = other
+view (callTime ms) = record { receives = λ h. false; shuts = λ h. false; busResult = false; ms = ms }
+view (callConfigure x) = other
+view callUnconfigure = other
+view (callListing rows) = other
+view (callLookup a) = other
+
+-- whether it is a receive or a close of handle h, a bus result, and its milliseconds
 abbrev pub isReceive : ℕ → Call → Bool
-isReceive h (callOpen p) = false
-isReceive h (callClose g) = false
-isReceive h (callMode g m) = false
-isReceive h (callTransmit g r) = false
-isReceive h (callReceive g) = eqb g h
-isReceive h callBusStart = false
-isReceive h (callBusResult status counts) = false
-isReceive h (callMessage n bytes) = false
-isReceive h (callTime ms) = false
-isReceive h (callConfigure x) = false
-isReceive h callUnconfigure = false
-isReceive h (callListing rows) = false
-isReceive h (callLookup a) = false
+isReceive h c = view c .receives h
 
 abbrev pub isClose : ℕ → Call → Bool
-isClose h (callOpen p) = false
-isClose h (callClose g) = eqb g h
-isClose h (callMode g m) = false
-isClose h (callTransmit g r) = false
-isClose h (callReceive g) = false
-isClose h callBusStart = false
-isClose h (callBusResult status counts) = false
-isClose h (callMessage n bytes) = false
-isClose h (callTime ms) = false
-isClose h (callConfigure x) = false
-isClose h callUnconfigure = false
-isClose h (callListing rows) = false
-isClose h (callLookup a) = false
+isClose h c = view c .shuts h
 
 abbrev pub isBusResult : Call → Bool
-isBusResult (callOpen p) = false
-isBusResult (callClose g) = false
-isBusResult (callMode g m) = false
-isBusResult (callTransmit g r) = false
-isBusResult (callReceive g) = false
-isBusResult callBusStart = false
-isBusResult (callBusResult status counts) = true
-isBusResult (callMessage n bytes) = false
-isBusResult (callTime ms) = false
-isBusResult (callConfigure x) = false
-isBusResult callUnconfigure = false
-isBusResult (callListing rows) = false
-isBusResult (callLookup a) = false
+isBusResult c = view c .busResult
 
 abbrev pub milliseconds : Call → ℕ
-milliseconds (callOpen p) = 0
-milliseconds (callClose g) = 0
-milliseconds (callMode g m) = 0
-milliseconds (callTransmit g r) = 0
-milliseconds (callReceive g) = 0
-milliseconds callBusStart = 0
-milliseconds (callBusResult status counts) = 0
-milliseconds (callMessage n bytes) = 0
-milliseconds (callTime ms) = ms
-milliseconds (callConfigure x) = 0
-milliseconds callUnconfigure = 0
-milliseconds (callListing rows) = 0
-milliseconds (callLookup a) = 0
+milliseconds c = view c .ms
 
 -- ---- of a call with its answer; a call is accepted if it succeeds
 -- a close of handle h that succeeded, and an accepted bus result
@@ -122,18 +101,18 @@ abbrev pub gives : ℕ → Step → Bool
 gives n x = givesTo n (x .answer)
 
 -- what a receive of handle h gave
-abbrev pub givenBy : Bool → Answer → List Entry
-givenBy b (refused e) = []
-givenBy b done = []
-givenBy b (opened h) = []
-givenBy b (accepted n status) = []
-givenBy b (received e) = cond b (e ∷ []) []
-givenBy b (started m) = []
-givenBy b (listed rows) = []
-givenBy b (address a) = []
+abbrev pub entryGiven : Bool → Answer → List Entry
+entryGiven b (refused e) = []
+entryGiven b done = []
+entryGiven b (opened h) = []
+entryGiven b (accepted n status) = []
+entryGiven b (received e) = cond b (e ∷ []) []
+entryGiven b (started m) = []
+entryGiven b (listed rows) = []
+entryGiven b (address a) = []
 
 abbrev pub gave : ℕ → Step → List Entry
-gave h x = givenBy (isReceive h (x .call)) (x .answer)
+gave h x = entryGiven (isReceive h (x .call)) (x .answer)
 
 -- "An entry comes with the call by whose rule it goes into a handle's inbox": the inbox of h after the call, without what was there before and is there still. To a handle that the call opened or closed nothing comes
 abbrev pub came : ℕ → Step → List Entry

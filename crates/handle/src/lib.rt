@@ -9,7 +9,6 @@ pub struct Handle {
     pub lost: u32,
 }
 
-// A row of the listing.
 #[repr(C)]
 pub struct Row {
     pub number: u8,

@@ -10,6 +10,9 @@ pub mod mode;
 
 use handle::Handle;
 
+// A number that no handle has.
+const NO_HANDLE: u8 = 8;
+
 #[repr(C)]
 pub struct Handles {
     slots: [Handle; 8],
@@ -23,7 +26,6 @@ pub struct Roles {
     pub follower: bool,
 }
 
-// A closed handle.
 pub fn closed() -> Handle
     ensures { λ r. ⌜ r ≡ closedHandle ⌝ }
 {
@@ -85,25 +87,25 @@ impl Handles {
         8
     }
 
-    // Which roles the handles hold, but for one; a number over 7 leaves out none.
-    pub fn roles(self, but: u8) -> Roles
-        ensures { λ r. ⌜ r ≡ rolesOf (without but (handlesOf self)) ⌝ }
+    // Which roles all handles but one hold.
+    pub fn roles_of_others(self, handle: u8) -> Roles
+        ensures { λ r. ⌜ r ≡ rolesOf (without handle (handlesOf self)) ⌝ }
     {
-        let b = but as usize;
+        let h = handle as usize;
         let mut exclusive_initiator = false;
         let mut exclusive_follower = false;
         let mut passthrough = false;
         let mut follower = false;
         let mut i = 0;
         while i < 8 {
-            let x = self.slots[i];
-            let other = i != b;
+            let slot = self.slots[i];
+            let other = i != h;
             exclusive_initiator = exclusive_initiator
-                | other & (x.is_open & mode::is_exclusive_initiator(x.mode));
+                | other & (slot.is_open & mode::is_exclusive_initiator(slot.mode));
             exclusive_follower = exclusive_follower
-                | other & (x.is_open & mode::is_exclusive_follower(x.mode));
-            passthrough = passthrough | other & (x.is_open & mode::is_passthrough(x.mode));
-            follower = follower | other & (x.is_open & mode::is_follower(x.mode));
+                | other & (slot.is_open & mode::is_exclusive_follower(slot.mode));
+            passthrough = passthrough | other & (slot.is_open & mode::is_passthrough(slot.mode));
+            follower = follower | other & (slot.is_open & mode::is_follower(slot.mode));
             i += 1;
         }
         Roles {
@@ -112,5 +114,12 @@ impl Handles {
             passthrough: passthrough,
             follower: follower,
         }
+    }
+
+    // Which roles the handles hold.
+    pub fn roles(self) -> Roles
+        ensures { λ r. ⌜ r ≡ rolesOf (handlesOf self) ⌝ }
+    {
+        self.roles_of_others(NO_HANDLE)
     }
 }

@@ -25,7 +25,7 @@ pub fn follower_part(mode: u32) -> u32
 pub fn is_follower(mode: u32) -> bool
     ensures { λ r. ⌜ r ≡ isFollower mode ⌝ }
 {
-    let part = mode - mode % 16;
+    let part = follower_part(mode);
     (part == CEC_MODE_FOLLOWER)
         | (part == CEC_MODE_EXCL_FOLLOWER)
         | (part == CEC_MODE_EXCL_FOLLOWER_PASSTHRU)
@@ -34,25 +34,25 @@ pub fn is_follower(mode: u32) -> bool
 pub fn is_monitor(mode: u32) -> bool
     ensures { λ r. ⌜ r ≡ isMonitor mode ⌝ }
 {
-    let part = mode - mode % 16;
+    let part = follower_part(mode);
     (part == CEC_MODE_MONITOR) | (part == CEC_MODE_MONITOR_ALL)
 }
 
 pub fn is_exclusive_initiator(mode: u32) -> bool
     ensures { λ r. ⌜ r ≡ isExclusiveInitiator mode ⌝ }
 {
-    mode % 16 == CEC_MODE_EXCL_INITIATOR
+    initiator_part(mode) == CEC_MODE_EXCL_INITIATOR
 }
 
 pub fn is_exclusive_follower(mode: u32) -> bool
     ensures { λ r. ⌜ r ≡ isExclusiveFollower mode ⌝ }
 {
-    let part = mode - mode % 16;
+    let part = follower_part(mode);
     (part == CEC_MODE_EXCL_FOLLOWER) | (part == CEC_MODE_EXCL_FOLLOWER_PASSTHRU)
 }
 
 pub fn is_passthrough(mode: u32) -> bool
     ensures { λ r. ⌜ r ≡ isPassthrough mode ⌝ }
 {
-    mode - mode % 16 == CEC_MODE_EXCL_FOLLOWER_PASSTHRU
+    follower_part(mode) == CEC_MODE_EXCL_FOLLOWER_PASSTHRU
 }

@@ -13,11 +13,11 @@ use Rattle.lists.specs.Sums.{any}
 use Rattle.lists.specs.Tests.{split}
 use Rattle.message.specs.declared.Message.{Message}
 use Rattle.rules.proofs.CoreSends.{sends-queue}
-use Rattle.rules.specs.Core.{answers, coreAnswer, isAnswered, isNoted, notes, sends}
-use Rattle.rules.specs.Deliver.{copies, copyTo, each, handleNumbers, loses}
+use Rattle.rules.specs.Core.{answers, isNoted, notes, sends}
+use Rattle.rules.specs.Deliver.{copies, copyTo, each, handleNumbers, loses, copyToBy, copiesBy}
+use Rattle.rules.specs.Derived.{roomTaken}
 use Rattle.rules.specs.Handles.{handleAt, inRole, someone}
 use Rattle.rules.specs.Incoming.{followed, follows, isCopied, replied}
-use Rattle.rules.specs.Owed.{roomTaken}
 use Rattle.rules.specs.State.{State, closedHandle}
 use Rattle.waits.specs.Waits.{Taken}
 
@@ -42,7 +42,7 @@ any-set p (x ∷ l) zero v d e = rw e
 any-set p (x ∷ l) (suc i) v d e = ap (λ (b : Bool). p x || b) (any-set p l i v d e)
 
 copyTo-alike : (e : Entry) (s : State) (h : ℕ) → Alike s (copyTo e s h)
-unfolding copyTo
+unfolding copyToBy
 copyTo-alike e s h =
     split (eqb (roomTaken s h) 16)
     (λ q. rw q (record { roles = λ p. any-set (inRole p) (s .handles) h (loses (handleAt s h)) closedHandle refl; settings = refl }))
@@ -53,7 +53,7 @@ each-alike f k s [] = alike-refl s
 each-alike f k s (x ∷ xs) = alike-trans s (f s x) (each f (f s x) xs) (k s x) (each-alike f k (f s x) xs)
 
 pub copies-alike : (p : Handle → Bool) (e : Entry) (s : State) → Alike s (copies p e s)
-unfolding copies
+unfolding copiesBy
 copies-alike p e s =
     each-alike (λ t g. cond (p (handleAt t g)) (copyTo e t g) t)
     (λ t g. alike-if (p (handleAt t g)) t (copyTo e t g) (copyTo-alike e t g))
@@ -70,9 +70,9 @@ pub notes-alike : (s : State) (m : Message) → Alike s (notes s m)
 unfolding notes
 notes-alike s m = split (isNoted m) (λ e. rw e (record { roles = λ p. refl; settings = refl })) (λ e. rw e (alike-refl s))
 
-pub answers-alike : (s : State) (m : Message) → Alike s (answers s m)
+pub answers-alike : (s : State) (b : Bool) (bytes : List ℕ) → Alike s (answers s b bytes)
 unfolding answers
-answers-alike s m = alike-if (isAnswered s m) s (sends s (coreAnswer (s .settings) m)) (sends-alike s (coreAnswer (s .settings) m))
+answers-alike s b bytes = alike-if b s (sends s bytes) (sends-alike s bytes)
 
-pub followed-alike : (s : State) (t : Taken) (m : Message) → Alike s (followed s t m)
-followed-alike s t m = alike-if (isCopied s t m) s (copies (inRole (follows s)) (messageCopy m) s) (copies-alike (inRole (follows s)) (messageCopy m) s)
+pub followed-alike : (s : State) (b : Bool) (t : Taken) (m : Message) → Alike s (followed s b t m)
+followed-alike s b t m = alike-if (isCopied b t) s (copies (inRole (follows s)) (messageCopy m) s) (copies-alike (inRole (follows s)) (messageCopy m) s)

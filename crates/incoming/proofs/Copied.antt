@@ -13,14 +13,14 @@ use Rattle.incoming.specs.Steps.{monitorKind, followerKind}
 use Rattle.lists.specs.Tests.{split, or-true, or-false, and-true}
 use Rattle.message.specs.Message.{destination}
 use Rattle.message.specs.declared.Message.{Message}
-use Rattle.rules.specs.Deliver.{copies, copyTo, each, handleNumbers}
+use Rattle.rules.specs.Deliver.{copies, copyTo, each, handleNumbers, copyToBy, copiesBy}
+use Rattle.rules.specs.Derived.{roomTaken}
 use Rattle.rules.specs.Handles.{handleAt, followerPart, inRole, isExclusiveFollower, isHere, isMonitor, someone}
 use Rattle.rules.specs.Incoming.{follows, monitors}
-use Rattle.rules.specs.Owed.{roomTaken}
 use Rattle.rules.specs.State.{State}
 
 copyTo-waits : (e : Entry) (s : State) (h : ℕ) → copyTo e s h .waits ≡ s .waits
-unfolding copyTo
+unfolding copyToBy
 copyTo-waits e s h = split (eqb (roomTaken s h) 16) (λ q. rw q) (λ q. rw q)
 
 each-waits : (f : State → ℕ → State) → ((s : State) (x : ℕ) → f s x .waits ≡ s .waits) → (s : State) (xs : List ℕ) → each f s xs .waits ≡ s .waits
@@ -28,7 +28,7 @@ each-waits f k s [] = refl
 each-waits f k s (x ∷ xs) = each-waits f k (f s x) xs ∙ k s x
 
 pub copies-waits : (p : Handle → Bool) (e : Entry) (s : State) → copies p e s .waits ≡ s .waits
-unfolding copies
+unfolding copiesBy
 copies-waits p e s =
     each-waits (λ t g. cond (p (handleAt t g)) (copyTo e t g) t)
     (λ t g. split (p (handleAt t g)) (λ q. rw q (copyTo-waits e t g)) (λ q. rw q))
@@ -40,7 +40,7 @@ each-same f g k s [] = refl
 each-same f g k s (x ∷ xs) = each-same f g k (f s x) xs ∙ ap (λ (t : State). each g t xs) (k s x)
 
 pub copies-same : (p q : Handle → Bool) → ((x : Handle) → p x ≡ q x) → (e : Entry) (s : State) → copies p e s ≡ copies q e s
-unfolding copies
+unfolding copiesBy
 copies-same p q k e s =
     each-same (λ t g. cond (p (handleAt t g)) (copyTo e t g) t) (λ t g. cond (q (handleAt t g)) (copyTo e t g) t)
     (λ t g. ap (λ (b : Bool). cond b (copyTo e t g) t) (k (handleAt t g)))
@@ -54,7 +54,8 @@ monitor-same s m here e mode =
     (λ q. rw (q, sym e ∙ q, or-true (eqb (followerPart mode) CEC-MODE-MONITOR-ALL), and-true (isMonitor mode)))
     (λ q. rw (q, sym e ∙ q, or-false (eqb (followerPart mode) CEC-MODE-MONITOR-ALL)))
 
-pub monitors-same : (s : State) (m : Message) (here : Bool) (e : Entry) → here ≡ isHere s (destination (m .bytes)) → copies (inRole (getsCopies (monitorKind here))) e s ≡ copies (inRole (monitors s m)) e s
+pub monitors-same : (s : State) (m : Message) (here : Bool) (e : Entry) → here ≡ isHere s (destination (m .bytes))
+    → copies (inRole (getsCopies (monitorKind here))) e s ≡ copies (inRole (monitors s m)) e s
 monitors-same s m here e q =
     copies-same (inRole (getsCopies (monitorKind here))) (inRole (monitors s m))
     (λ x. ap (λ (b : Bool). x .«is_open» && b) (monitor-same s m here q (x .mode)))
@@ -65,7 +66,8 @@ monitors-same s m here e q =
 follower-same : (exclusive : Bool) (s : State) → someone isExclusiveFollower s ≡ exclusive → (mode : ℕ) → getsCopies (followerKind exclusive) mode ≡ follows s mode
 follower-same exclusive s e mode = split exclusive (λ q. rw (q, e ∙ q)) (λ q. rw (q, e ∙ q))
 
-pub followers-same : (exclusive : Bool) (s : State) (e : Entry) → someone isExclusiveFollower s ≡ exclusive → copies (inRole (getsCopies (followerKind exclusive))) e s ≡ copies (inRole (follows s)) e s
+pub followers-same : (exclusive : Bool) (s : State) (e : Entry) → someone isExclusiveFollower s ≡ exclusive
+    → copies (inRole (getsCopies (followerKind exclusive))) e s ≡ copies (inRole (follows s)) e s
 followers-same exclusive s e q =
     copies-same (inRole (getsCopies (followerKind exclusive))) (inRole (follows s))
     (λ x. ap (λ (b : Bool). x .«is_open» && b) (follower-same exclusive s q (x .mode)))

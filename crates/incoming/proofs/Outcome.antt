@@ -7,7 +7,7 @@ use mathlib.Core.Logic.{_≢_}
 use mathlib.Core.Path.{_≡_, ap, _∙_}
 use lib.Dec.{eqb}
 use borrow.Author.Tests.{eqb-true, eqb-false, ne-eqb}
-use Rattle.copies.specs.Kinds.{getsCopies}
+use Rattle.copies.specs.Kinds.{getsCopies, NOBODY}
 use Rattle.entry.specs.Entry.{messageCopy}
 use Rattle.entry.specs.declared.Entry.{Entry}
 use Rattle.inbox.specs.Inboxes.{delivered}
@@ -40,11 +40,11 @@ pub message-outcome : (errno length : ℕ) (bytes : List ℕ) (m : Message) (her
     → here ≡ isHere (stateOf p0) (destination (m .bytes))
     → kind ≡ receiversOf (eqb errno 0) (stateOf p0 .handles) (monitorKind here)
     → x ≡ toDoOf (stateOf p1) (eqb errno 0 && goesOn (stateOf p1) m) m
-    → Change p0 (copies (inRole (getsCopies kind)) (messageCopy m) (stateOf p0)) (kind ≡ 4) p1
+    → Change p0 (copies (inRole (getsCopies kind)) (messageCopy m) (stateOf p0)) (kind ≡ NOBODY) p1
     → Change p1 (doReply x m (stateOf p1)) (x .replies ≡ false) p2
     → Change p2 (doNote x m (stateOf p2)) (x .notes ≡ false) p3
     → Change p3 (doSend x (stateOf p3)) (x .sends ≡ false) p4
-    → Change p4 (doCopies x m (stateOf p4)) (x .followers ≡ 4) p5
+    → Change p4 (doCopies x m (stateOf p4)) (x .followers ≡ NOBODY) p5
     → (doneOf (record { parts = p5; errno = errno }) ≡ doMessage (stateOf p0) length bytes) × (errno ≢ 0 → p5 ≡ p0)
 unfolding doMessage
 message-outcome errno length bytes m here kind x p0 p1 p2 p3 p4 p5 refusal made at monitored todo c1 c2 c3 c4 c5 =
@@ -68,13 +68,20 @@ message-outcome errno length bytes m here kind x p0 p1 p2 p3 p4 p5 refusal made 
     ∙ monitors-same s m here e at in
     let heardAll : eqb errno 0 ≡ true → stateOf p5 ≡ heard s m =
     λ f. heard-all s u (stateOf p5) m (copied f)
-    (all ∙ ap (λ (y : ToDo). doAll y m u) (todo ∙ ap (λ (b : Bool). toDoOf u (b && goesOn u m) m) f) ∙ done-all u (goesOn u m) m) in (
+    (all ∙ ap (λ (y : ToDo). doAll y m u) (todo ∙ ap (λ (b : Bool). toDoOf u (b && goesOn u m) m) f) ∙ done-all u (goesOn u m) m) in
+    let taken = finish Answer.done (heard s (message length bytes)) in (
       split (eqb errno 0)
-          (λ f. taken-outcome s (stateOf p5) (finish Answer.done (heard s (message length bytes))) Answer.done errno (incomingRefusal length) refusal (eqb-true errno 0 f) (ap (finish Answer.done) (heardAll f ∙ ap (heard s) made)))
-          (λ f. ap (λ (p : Parts). finish (orRefused errno Answer.done) (stateOf p)) (same (eqb-false errno 0 f)) ∙ refused-outcome s (finish Answer.done (heard s (message length bytes))) Answer.done errno (incomingRefusal length) refusal (eqb-false errno 0 f)),
+          (λ f. taken-outcome s (stateOf p5) taken Answer.done errno _ refusal (eqb-true errno 0 f) (ap (finish Answer.done) (heardAll f ∙ ap (heard s) made)))
+          (λ f. let z = eqb-false errno 0 f in
+          ap (λ (p : Parts). finish (orRefused errno Answer.done) (stateOf p)) (same z) ∙ refused-outcome s taken Answer.done errno _ refusal z),
       same,
     )
 
 -- a reply, once its entry is stored
-pub replied-state : (s : State) (b : Bool) (ws vs : List Wait) (is : List (List Entry)) (h : ℕ) (e d : Entry) → b ≡ true → vs ≡ ws → e ≡ d → is ≡ delivered (s .inboxes) h e → withInboxes (withWaits s vs) is ≡ cond b (deliver (withWaits s ws) h d) s
+pub replied-state : (s : State) (b : Bool) (ws vs : List Wait) (is : List (List Entry)) (h : ℕ) (e d : Entry)
+    → b ≡ true
+    → vs ≡ ws
+    → e ≡ d
+    → is ≡ delivered (s .inboxes) h e
+    → withInboxes (withWaits s vs) is ≡ cond b (deliver (withWaits s ws) h d) s
 replied-state s b ws vs is h e d t v q r = rw (t, r, v, q)

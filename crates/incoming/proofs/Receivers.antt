@@ -7,7 +7,7 @@ use mathlib.Core.Path.{_≡_, refl, sym, _∙_}
 use lib.Dec.{eqb}
 use Rattle.constants.specs.Kernel.{CEC-MODE-FOLLOWER, CEC-MODE-EXCL-FOLLOWER, CEC-MODE-EXCL-FOLLOWER-PASSTHRU}
 use Rattle.copies.proofs.Turns.{copies-none, nobody}
-use Rattle.copies.specs.Kinds.{getsCopies}
+use Rattle.copies.specs.Kinds.{getsCopies, NOBODY}
 use Rattle.entry.specs.declared.Entry.{Entry}
 use Rattle.handle.specs.declared.Handle.{Handle}
 use Rattle.incoming.specs.Steps.{followerKind, receiversOf}
@@ -22,7 +22,7 @@ any-never p k [] = refl
 any-never p k (x ∷ l) = rw (k x, any-never p k l)
 
 -- copies for nobody
-pub nobody-copies : (kind : ℕ) (e : Entry) (s : State) → kind ≡ 4 → s ≡ copies (inRole (getsCopies kind)) e s
+pub nobody-copies : (kind : ℕ) (e : Entry) (s : State) → kind ≡ NOBODY → s ≡ copies (inRole (getsCopies kind)) e s
 nobody-copies kind e s q = copies-none (inRole (getsCopies kind)) e s refl (any-never (inRole (getsCopies kind)) (λ x. nobody kind x q) (s .handles))
 
 -- copies for a kind, if a test holds
@@ -31,8 +31,8 @@ receivers-copies b kind e s =
     split b
     (λ q. split (any (inRole (getsCopies kind)) (s .handles))
     (λ f. rw (q, f))
-    (λ f. rw (q, f) (sym (nobody-copies 4 e s refl) ∙ copies-none (inRole (getsCopies kind)) e s refl f)))
-    (λ q. rw q (sym (nobody-copies 4 e s refl)))
+    (λ f. rw (q, f) (sym (nobody-copies NOBODY e s refl) ∙ copies-none (inRole (getsCopies kind)) e s refl f)))
+    (λ q. rw q (sym (nobody-copies NOBODY e s refl)))
 
 -- where nobody follows, there is no receiver among followers
 fewer : (exclusive a b c : Bool) → (a || b || c) ≡ false → cond exclusive (b || c) a ≡ false

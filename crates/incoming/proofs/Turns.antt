@@ -5,9 +5,9 @@ use mathlib.Core.Bool.{Bool, true, false, cond, not, _&&_, _||_}
 use mathlib.Core.List.{List}
 use mathlib.Core.Path.{_≡_, refl, sym, ap, _∙_}
 use lib.Dec.{eqb}
-use Rattle.constants.specs.Kernel.{CEC-MSG-FEATURE-ABORT, CEC-OP-ABORT-UNRECOGNIZED-OP}
+use Rattle.constants.specs.Kernel.{CEC-OP-ABORT-UNRECOGNIZED-OP}
 use Rattle.copies.proofs.Turns.{copies-none}
-use Rattle.copies.specs.Kinds.{getsCopies}
+use Rattle.copies.specs.Kinds.{getsCopies, NOBODY}
 use Rattle.core.specs.Work.{messageOf, abortOf}
 use Rattle.entry.specs.Entry.{messageCopy}
 use Rattle.entry.specs.declared.Entry.{Entry}
@@ -22,12 +22,13 @@ use Rattle.lists.specs.Places.{first, without}
 use Rattle.lists.specs.Sums.{any}
 use Rattle.lists.specs.Tests.{clash, cond-same, split}
 use Rattle.lists.specs.Vector.{put}
-use Rattle.message.specs.Message.{destination, opcode}
+use Rattle.message.specs.Message.{destination, opcode, isFeatureAbort}
 use Rattle.message.specs.declared.Message.{Message}
-use Rattle.rules.specs.Core.{answers, coreAnswer, isDirected, isNoted, isRegistered, notes, sends}
+use Rattle.rules.specs.Core.{answers, coreAnswer, isAnswered, isDirected, isNoted, isRegistered, notes, sends}
 use Rattle.rules.specs.Deliver.{copies, deliver}
 use Rattle.rules.specs.Handles.{inRole, isConfigured, isHere, someone, isExclusiveFollower, isFollower, isPassthrough}
-use Rattle.rules.specs.Incoming.{followed, handled, heard, monitors, refusedMessage, replied, replyEntry, stops}
+use Rattle.rules.specs.Incoming.{followed, handled, heard, heardWith, monitors, refusedMessage, replied, replyEntry, stops}
+use Rattle.settings.specs.declared.Settings.{Settings}
 use Rattle.rules.specs.State.{State, withNoted, withQueue, withWaits}
 use Rattle.steps.specs.declared.Chosen.{Chosen}
 use Rattle.transmission.specs.Transmission.{ownerless}
@@ -74,7 +75,7 @@ alone false false false noted d r o e = (refl, refl)
 
 -- what is to be done, done
 abbrev pub doReply : ToDo → Message → State → State
-doReply x m s = cond (x .replies) (deliver (withWaits s (without (x .wait) (s .waits))) (x .owner) (replyEntry (x .number) m)) s
+doReply x m s = cond (x .replies) (deliver (withWaits s (without (x .wait) (s .waits))) (x .owner) (replyEntry (x .sequence) m)) s
 
 abbrev pub doNote : ToDo → Message → State → State
 doNote x m s = cond (x .notes) (withNoted s (notedAt (s .noted) m)) s
@@ -102,30 +103,38 @@ module _ (s : State) (t : Taken) (m : Message) where
   abbrev kind : ℕ
   kind = followerKind (chosen .exclusive)
 
-  answer-step : (a : State) → Alike s a → when (chosen .answers) (λ x. putInto x answer) a ≡ answers a m
+  abbrev said : Bool
+  said = isAnswered s m
+
+  abbrev bytes : List ℕ
+  bytes = coreAnswer (s .settings) m
+
+  answer-step : (a : State) → when (chosen .answers) (λ x. putInto x answer) a ≡ answers a said bytes
   unfolding answers sends
-  answer-step a k = rw (k .roles isPassthrough, k .settings)
+  answer-step a = refl
 
-  copy-step : (a : State) → Alike s a → when (chosen .copies) (copies (inRole (getsCopies kind)) (messageCopy m)) a ≡ followed a t m
+  copy-step : (a : State) → Alike s a → when (chosen .copies) (copies (inRole (getsCopies kind)) (messageCopy m)) a ≡ followed a said t m
   copy-step a k =
-      ap (λ (x : State). cond (chosen .copies) x a) (followers-same (someone isExclusiveFollower s) a (messageCopy m) (k .roles isExclusiveFollower)) ∙ rw (k .roles isPassthrough)
+      ap (λ (x : State). cond (chosen .copies) x a) (followers-same (someone isExclusiveFollower s) a (messageCopy m) (k .roles isExclusiveFollower))
 
-  abort-step : (a : State) → Alike s a → when (chosen .aborts) (λ x. putInto x abort) a ≡ refusedMessage a t m
+  abort-step : (a : State) → Alike s a → when (chosen .aborts) (λ x. putInto x abort) a ≡ refusedMessage a said t m
   unfolding sends
-  abort-step a k = rw (k .roles isPassthrough, k .roles isFollower)
+  abort-step a k = rw (k .roles isFollower)
 
-  in-order : (b : State) → Alike s b → inOrder answer abort kind (messageCopy m) (chosen .answers) (chosen .aborts) (chosen .copies) b ≡ refusedMessage (followed (answers b m) t m) t m
+  in-order : (b : State) → Alike s b
+      → inOrder answer abort kind (messageCopy m) (chosen .answers) (chosen .aborts) (chosen .copies) b ≡ refusedMessage (followed (answers b said bytes) said t m) said t m
   in-order b k =
-      let kc = alike-trans s b (answers b m) k (answers-alike b m) in
-      let kd = alike-trans s (answers b m) (followed (answers b m) t m) kc (followed-alike (answers b m) t m) in
-      ap (λ (z : State). when (chosen .aborts) (λ x. putInto x abort) (when (chosen .copies) (copies (inRole (getsCopies kind)) (messageCopy m)) z)) (answer-step b k)
-      ∙ ap (λ (z : State). when (chosen .aborts) (λ x. putInto x abort) z) (copy-step (answers b m) kc)
-      ∙ abort-step (followed (answers b m) t m) kd
+      let c = answers b said bytes in
+      let kc = alike-trans s b c k (answers-alike b said bytes) in
+      let kd = alike-trans s c (followed c said t m) kc (followed-alike c said t m) in
+      ap (λ (z : State). when (chosen .aborts) (λ x. putInto x abort) (when (chosen .copies) (copies (inRole (getsCopies kind)) (messageCopy m)) z)) (answer-step b)
+      ∙ ap (λ (z : State). when (chosen .aborts) (λ x. putInto x abort) z) (copy-step c kc)
+      ∙ abort-step (followed c said t m) kd
 
   -- with a Feature Abort there is no answer, and no follower
   abort-alone : chosen .aborts ≡ true → (chosen .answers ≡ false) × (someone isFollower s ≡ false)
   abort-alone e =
-      alone (t .found) (someone isFollower s) (chosen .answers) (chosen .notes) (isDirected m) (isRegistered m) (not (eqb (opcode (m .bytes)) CEC-MSG-FEATURE-ABORT)) e
+      alone (t .found) (someone isFollower s) (chosen .answers) (chosen .notes) (isDirected m) (isRegistered m) (not (isFeatureAbort (opcode (m .bytes)))) e
 
   answer-alone : chosen .answers ≡ true → (chosen .aborts ≡ false) × (chosen .copies ≡ false)
   answer-alone e = (split (chosen .aborts) (λ q. clash e (abort-alone q .0)) (λ q. q), rw e)
@@ -140,7 +149,7 @@ module _ (s : State) (t : Taken) (m : Message) where
 
   sent-steps : (b d : State) → Alike s b → b .handles ≡ s .handles
       → d ≡ sentFirst answer abort kind (messageCopy m) (chosen .answers) (chosen .aborts) b
-      → copies (inRole (getsCopies (receiversOf (chosen .copies) (s .handles) kind))) (messageCopy m) d ≡ refusedMessage (followed (answers b m) t m) t m
+      → copies (inRole (getsCopies (receiversOf (chosen .copies) (s .handles) kind))) (messageCopy m) d ≡ refusedMessage (followed (answers b said bytes) said t m) said t m
   sent-steps b d k h q =
       let e = messageCopy m in
       let hd : d .handles ≡ s .handles = ap (λ (z : State). z .handles) q ∙ sent-handles answer abort kind e (chosen .answers) (chosen .aborts) b ∙ h in
@@ -150,9 +159,9 @@ module _ (s : State) (t : Taken) (m : Message) where
       ∙ sent-in-order answer abort kind e (chosen .answers) (chosen .aborts) (chosen .copies) b answer-alone (λ z. rw h (no-followers (chosen .exclusive) (s .handles) (abort-alone z .1)))
       ∙ in-order b k
 
-pub done-all : (s : State) (on : Bool) (m : Message) → doAll (toDoOf s on m) m s ≡ cond on (handled s (matchTaken m (s .waits)) m) s
+pub done-all : (s : State) (further : Bool) (m : Message) → doAll (toDoOf s further m) m s ≡ cond further (handled s (isAnswered s m) (coreAnswer (s .settings) m) (matchTaken m (s .waits)) m) s
 unfolding matchTaken notes
-done-all s false m = sym (nobody-copies 4 (messageCopy m) s refl)
+done-all s false m = sym (nobody-copies NOBODY (messageCopy m) s refl)
 done-all s true m =
     let t = takenAt (first (answeredBy m) (s .waits)) (s .waits) in
     let a = replied s t m in
@@ -172,10 +181,14 @@ not-stops false b c = refl
 pub goes-on : (s c : State) (m : Message) → c .settings ≡ s .settings → goesOn c m ≡ not (stops s m)
 goes-on s c m q = rw q (not-stops (isConfigured s) (eqb (m .length) 1) (isHere s (destination (m .bytes))))
 
-pub heard-all : (s c r : State) (m : Message) → c ≡ copies (inRole (monitors s m)) (messageCopy m) s → r ≡ cond (goesOn c m) (handled c (matchTaken m (c .waits)) m) c → r ≡ heard s m
-unfolding heard
+pub heard-all : (s c r : State) (m : Message) → c ≡ copies (inRole (monitors s m)) (messageCopy m) s
+    → r ≡ cond (goesOn c m) (handled c (isAnswered c m) (coreAnswer (c .settings) m) (matchTaken m (c .waits)) m) c → r ≡ heard s m
+unfolding heardWith
 heard-all s c r m q e =
     let k = copies-alike (inRole (monitors s m)) (messageCopy m) s in
     let w = copies-waits (inRole (monitors s m)) (messageCopy m) s in
     let g = goes-on s c m (ap (λ (z : State). z .settings) q ∙ k .settings) in
-    e ∙ split (stops s m) (λ z. rw (g, z) q) (λ z. rw (g, z, q, w))
+    let x : c .settings ≡ s .settings = ap (λ (z : State). z .settings) q ∙ k .settings in
+    let y : isAnswered c m ≡ isAnswered s m = rw (ap (someone isPassthrough) q ∙ k .roles isPassthrough) in
+    let v : coreAnswer (c .settings) m ≡ coreAnswer (s .settings) m = ap (λ (z : Settings). coreAnswer z m) x in
+    e ∙ split (stops s m) (λ z. rw (g, z) q) (λ z. rw (g, z, y, v, q, w))

@@ -5,7 +5,7 @@ use mathlib.Core.Bool.{Bool, cond, not, _&&_}
 use mathlib.Core.List.{List}
 use lib.Dec.{eqb}
 use lib.ListN.{getD, set}
-use Rattle.copies.specs.Kinds.{getsCopies}
+use Rattle.copies.specs.Kinds.{getsCopies, EXCLUSIVE-FOLLOWER, FOLLOWERS, MONITORS, MONITORS-OF-ALL, NOBODY}
 use Rattle.handle.specs.declared.Handle.{Handle}
 use Rattle.lists.specs.Sums.{any}
 use Rattle.message.specs.Message.{destination, initiator}
@@ -13,16 +13,17 @@ use Rattle.message.specs.declared.Message.{Message}
 use Rattle.rules.specs.Handles.{inRole, isConfigured, isHere}
 use Rattle.rules.specs.State.{State}
 
--- kinds of handles that get copies, as `copies` numbers them
+-- the monitors that see a message, by whether it goes to 15 or an own address
 abbrev pub monitorKind : Bool → ℕ
-monitorKind here = cond here 0 1
+monitorKind here = cond here MONITORS MONITORS-OF-ALL
 
+-- the followers that get one, by whether there is an exclusive one
 abbrev pub followerKind : Bool → ℕ
-followerKind exclusive = cond exclusive 2 3
+followerKind exclusive = cond exclusive EXCLUSIVE-FOLLOWER FOLLOWERS
 
--- the kind, or 4, nobody: if a test fails, or no handle is of the kind
+-- nobody, if there are to be no copies, or no handle is of the kind
 abbrev pub receiversOf : Bool → List Handle → ℕ → ℕ
-receiversOf test hs kind = cond (test && any (inRole (getsCopies kind)) hs) kind 4
+receiversOf copied hs kind = cond (copied && any (inRole (getsCopies kind)) hs) kind NOBODY
 
 -- not `rules: stops`
 abbrev pub goesOn : State → Message → Bool

@@ -17,20 +17,20 @@ use Rattle.waits.specs.Waits.{Taken, takenAt}
 abbrev pub chosenFor : State → Taken → Message → Chosen
 chosenFor s t m = chosenOf (s .handles) (workOf (s .settings) m) (t .found) (t .wait .«to_followers») m
 
--- the same for a wait at a place; nothing is done where the message stops
+-- the steps, for the wait that the message ends; nothing is done where it goes no further
 abbrev pub toDoAt : State → Bool → Message → Taken → Chosen → ToDo
-toDoAt s on m t x = record {
-  replies = on && t .found;
+toDoAt s further m t x = record {
+  replies = further && t .found;
   wait = first (answeredBy m) (s .waits);
   owner = t .wait .owner;
-  number = t .wait .number;
-  notes = on && x .notes;
-  sends = on && (x .answers || x .aborts) && s .capabilities .transmit;
+  sequence = t .wait .sequence;
+  notes = further && x .notes;
+  sends = further && (x .answers || x .aborts) && s .capabilities .transmit;
   answer = cond (x .aborts) (messageOf (abortOf m CEC-OP-ABORT-UNRECOGNIZED-OP)) (workOf (s .settings) m .answer);
-  followers = receiversOf (on && x .copies) (s .handles) (followerKind (x .exclusive));
+  followers = receiversOf (further && x .copies) (s .handles) (followerKind (x .exclusive));
 }
 
 abbrev pub toDoOf : State → Bool → Message → ToDo
-toDoOf s on m =
+toDoOf s further m =
     let t = takenAt (first (answeredBy m) (s .waits)) (s .waits) in
-    toDoAt s on m t (chosenFor s t m)
+    toDoAt s further m t (chosenFor s t m)

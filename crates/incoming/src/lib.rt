@@ -17,11 +17,11 @@ use copies::MONITORS;
 use copies::MONITORS_OF_ALL;
 use copies::NOBODY;
 use entry::Entry;
+use inbox::count_at;
 use message::Message;
 use parts::Done;
 use parts::Parts;
 use parts::check;
-use parts::count_at;
 use transmission::Transmission;
 
 // What is to be done in steps 3 to 6: whether the wait at a place ends with a reply, whether an address is noted, whether the core sends a message, and who gets copies.
@@ -29,7 +29,7 @@ struct ToDo {
     replies: bool,
     wait: usize,
     owner: u8,
-    number: u32,
+    sequence: u32,
     notes: bool,
     sends: bool,
     answer: Message,
@@ -73,9 +73,9 @@ fn goes_on(parts: Parts, message: Message) -> bool
     parts.is_configured() & (message.length() != 1) & is_here(parts, message.destination())
 }
 
-// Steps 3 to 6: reply, core work, copies, Feature Abort.
-fn to_do(parts: Parts, on: bool, message: Message) -> ToDo
-    ensures { λ r. ⌜ r ≡ toDoOf (stateOf parts) on message ⌝ }
+// Steps 3 to 6: reply, core work, copies, Feature Abort; nothing where the message goes no further.
+fn later_steps(parts: Parts, further: bool, message: Message) -> ToDo
+    ensures { λ r. ⌜ r ≡ toDoOf (stateOf parts) further message ⌝ }
 {
     let waits = parts.waits;
     let at = waits.first_match(message);
@@ -85,14 +85,18 @@ fn to_do(parts: Parts, on: bool, message: Message) -> ToDo
     let handles = parts.handles;
     let chosen = steps::choose(handles, work, found, wait.to_followers, message);
     ToDo {
-        replies: on & found,
+        replies: further & found,
         wait: at,
         owner: wait.owner,
-        number: wait.number,
-        notes: on & chosen.notes,
-        sends: on & (chosen.answers | chosen.aborts) & parts.can_transmit,
+        sequence: wait.sequence,
+        notes: further & chosen.notes,
+        sends: further & (chosen.answers | chosen.aborts) & parts.can_transmit,
         answer: step::sent(chosen.aborts, work.answer, message),
-        followers: step::receivers(on & chosen.copies, handles, follower_kind(chosen.exclusive)),
+        followers: step::receivers(
+            further & chosen.copies,
+            handles,
+            follower_kind(chosen.exclusive),
+        ),
     }
 }
 
@@ -108,16 +112,14 @@ pub fn message(mut parts: Parts, length: u8, bytes: [u8; 16]) -> Done
     if monitors != NOBODY {
         parts = copies::copies(parts, monitors, Entry::message_copy(message));
     }
-    let to_do = to_do(parts, (errno == 0) & goes_on(parts, message), message);
+    let to_do = later_steps(parts, (errno == 0) & goes_on(parts, message), message);
     if to_do.replies {
         parts.waits = parts.waits.without(to_do.wait);
-        let h = to_do.owner as usize;
         let n = count_at(parts.counts, to_do.owner);
-        if h < 8 {
-            if n < 16 {
-                parts.entries[16 * h + n] = step::reply_entry(to_do.number, message);
-                parts.counts[h] = n + 1;
-            }
+        let h = to_do.owner as usize;
+        if (h < 8) & (n < 16) {
+            parts.entries[16 * h + n] = step::reply_entry(to_do.sequence, message);
+            parts.counts[h] = n + 1;
         }
     }
     if to_do.notes {

@@ -14,14 +14,14 @@ use entry::Entry;
 use handles::Handles;
 use message::Message;
 
-// The entry of a reply.
-pub fn reply_entry(number: u32, message: Message) -> Entry
-    ensures { λ r. ⌜ r ≡ replyEntry number message ⌝ }
+// A Feature Abort is a reply too, with a bit of its own in the status.
+pub fn reply_entry(sequence: u32, message: Message) -> Entry
+    ensures { λ r. ⌜ r ≡ replyEntry sequence message ⌝ }
 {
     if message.opcode() == CEC_MSG_FEATURE_ABORT {
-        Entry::feature_abort_reply(number, message)
+        Entry::feature_abort_reply(sequence, message)
     } else {
-        Entry::reply(number, message)
+        Entry::reply(sequence, message)
     }
 }
 
@@ -55,11 +55,11 @@ pub fn sent(aborts: bool, answer: Message, message: Message) -> Message
     }
 }
 
-// Who gets copies: nobody, if the test fails or no handle is of the kind.
-pub fn receivers(test: bool, handles: Handles, kind: u8) -> u8
-    ensures { λ r. ⌜ r ≡ receiversOf test (handlesOf handles) kind ⌝ }
+// Who gets copies: nobody, if there are to be none or no handle is of the kind.
+pub fn receivers(copied: bool, handles: Handles, kind: u8) -> u8
+    ensures { λ r. ⌜ r ≡ receiversOf copied (handlesOf handles) kind ⌝ }
 {
-    if test & copies::has(handles, kind) {
+    if copied & copies::has(handles, kind) {
         kind
     } else {
         NOBODY

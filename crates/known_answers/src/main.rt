@@ -39,7 +39,7 @@ fn bench(privileged: bool) -> Adapter {
 }
 
 fn mode(privileged: bool, mode: u32) -> u32 {
-    bench(privileged).mode(0, mode).errno
+    bench(privileged).set_mode(0, mode).errno
 }
 
 fn request(length: u8, first: u8, opcode: u8, reply: u8) -> Request {
@@ -93,7 +93,7 @@ fn asked(length: u8, first: u8, second: u8, third: u8) -> Given {
     bytes[0] = first;
     bytes[1] = second;
     bytes[2] = third;
-    let answer = waiting().message(length, bytes).adapter.receive(0);
+    let answer = waiting().received(length, bytes).adapter.receive(0);
     Given {
         errno: answer.errno,
         status: answer.entry.rx_status as u32,
@@ -113,7 +113,7 @@ fn sent(length: u8) -> u32 {
 }
 
 fn came(length: u8) -> u32 {
-    bench(true).message(length, [0x0F; 16]).errno
+    bench(true).received(length, [0x0F; 16]).errno
 }
 
 fn one(adapter: Adapter, handle: u8) -> Adapter {
@@ -146,11 +146,11 @@ fn version_asked(adapter: Adapter) -> Adapter {
     let mut bytes = [0; 16];
     bytes[0] = 0x04;
     bytes[1] = 0x9F;
-    adapter.message(2, bytes).adapter
+    adapter.received(2, bytes).adapter
 }
 
-fn last_number() -> u32 {
-    traffic::next_number(Queue::empty(), Wire::idle(), Waits::empty(), 4294967295)
+fn next_after_last() -> u32 {
+    traffic::next_sequence(Queue::empty(), Wire::idle(), Waits::empty(), 4294967295)
 }
 
 fn main() {
@@ -178,7 +178,7 @@ fn main() {
     );
     line(b"result 0x21: errno ", result(0x21));
     line(b"result 0x02: errno ", result(0x02));
-    line(b"last number 4294967295: next is ", last_number());
+    line(b"last number 4294967295: next is ", next_after_last());
     line(b"message of 16 bytes: errno ", sent(16));
     line(b"message of 17 bytes: errno ", sent(17));
     line(b"message of 16 bytes from the wire: errno ", came(16));

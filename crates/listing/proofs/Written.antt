@@ -66,4 +66,4 @@ pub eight-filled : (s : State) (errno : ℕ) (rs zs : List Row) → length rs �
 unfolding rowsAfter doListing unless check
 eight-filled s errno rs zs long q o =
     let e = le-ltb (length rs) 8 (omega (arith, long)) in
-    (split (eqb errno 0) (λ f. eqb-true errno 0 f) (λ f. absurd (no-refusal errno _ (ap (λ (x : Outcome). x .answer) (rw (f, e) at o)))), q ∙ rw (e, drop-of-length-le rs {i = 8} (omega (arith, long))))
+    (split (eqb errno 0) (eqb-true errno 0) (λ f. absurd (no-refusal errno _ (ap (λ (x : Outcome). x .answer) (rw (f, e) at o)))), q ∙ rw (e, drop-of-length-le rs {i = 8} (omega (arith, long))))

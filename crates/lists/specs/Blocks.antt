@@ -9,17 +9,50 @@ use native.Mathlib.Numerals.{add-one}
 use native.Mathlib.Omega.{arith}
 use lib.Dec.{leb}
 use lib.ListN.{length, getD, set, take, drop, length-take, length-drop}
-use lib.Seq.{take-take, drop-drop, take-set-le, drop-set-lt, drop-set-add, take-set-lt, take-suc-set, length-take-le, take-all, getD-take, getD-drop}
+use lib.Seq.{take-take, take-append-le, drop-drop, drop-append-add, drop-append-le, take-set-le, drop-set-lt, drop-set-add, take-set-lt, take-suc-set, length-take-le, take-all, getD-take, getD-drop}
 use borrow.Author.Tests.{leb-true, leb-false}
 use Rattle.lists.specs.Elements.{drop-take, getD-within}
-use Rattle.lists.specs.Places.{without-first}
-use Rattle.lists.specs.Vector.{shifted, shift-end, take-shifted, drop-shifted, drop-shifted-past}
+use Rattle.lists.specs.Places.{without, without-first}
+use Rattle.lists.specs.Vector.{shifted, length-shift-head, shift-end}
 
 next-block : (w h : ℕ) → w * suc h ≡ w + w * h
 next-block w h = omega (arith, mul-suc w h)
 
 past-shift : (w h m : ℕ) → m < w → w * h + w ≡ w * h + m + (w - m)
 past-shift w h m a = omega arith
+
+-- an element taken out by a shift: what is before it, and what is past the shift, stays; what is from it on is shifted by itself
+module _ {A : Type 0} where
+  take-without : (i : ℕ) (l : List A) → take i (without i l) ≡ take i l
+  take-without zero [] = refl
+  take-without zero (x ∷ l) = refl
+  take-without (suc i) [] = refl
+  take-without (suc i) (x ∷ l) = rw (take-without i l)
+
+  drop-without : (i : ℕ) (l : List A) → drop i (without i l) ≡ without 0 (drop i l)
+  drop-without zero [] = refl
+  drop-without zero (x ∷ l) = refl
+  drop-without (suc i) [] = refl
+  drop-without (suc i) (x ∷ l) = drop-without i l
+
+  drop-past : (xs ys : List A) (n m : ℕ) → length xs ≡ n → drop (n + m) (xs ++ ys) ≡ drop m ys
+  drop-past xs ys n m e = rw (← e) (drop-append-add xs ys m)
+
+  take-shifted : (i j : ℕ) (l : List A) → i ≤ j → j < length l → take i (shifted i j l) ≡ take i l
+  take-shifted i j l a b =
+      take-append-le i (without i (take (suc j) l)) (drop j l) (omega (arith, length-shift-head i j l a b))
+      ∙ take-without i (take (suc j) l)
+      ∙ take-take i (suc j) l (omega arith)
+
+  drop-shifted-past : (i j k : ℕ) (l : List A) → i ≤ j → j < length l → drop (j + k) (shifted i j l) ≡ drop (j + k) l
+  drop-shifted-past i j k l a b = drop-past (without i (take (suc j) l)) (drop j l) j k (length-shift-head i j l a b) ∙ drop-drop k j l
+
+  drop-shifted : (i m : ℕ) (l : List A) → i + m < length l → drop i (shifted i (i + m) l) ≡ shifted 0 m (drop i l)
+  drop-shifted i m l b =
+      let s : suc (i + m) ≡ i + suc m = omega arith in
+      let a : drop i (take (suc (i + m)) l) ≡ take (suc m) (drop i l) = rw s (drop-take i (suc m) l) in
+      drop-append-le i (without i (take (suc (i + m)) l)) (drop (i + m) l) (omega (arith, length-shift-head i (i + m) l (omega arith) b))
+      ∙ rw (drop-without i (take (suc (i + m)) l), a, drop-drop m i l)
 
 module _ {A : Type 0} (w : ℕ) where
   -- the list of the lists
@@ -32,24 +65,24 @@ module _ {A : Type 0} (w : ℕ) where
   length-parts (c ∷ cs) l = ap suc (length-parts cs (drop w l))
 
   -- block h of the array
-  abbrev pub block : ℕ → List A → List A
+  abbrev block : ℕ → List A → List A
   block h l = take w (drop (w * h) l)
 
   drop-block : (h : ℕ) (l : List A) → drop (w * h) (drop w l) ≡ drop (w * suc h) l
   drop-block h l = rw (next-block w h) (drop-drop (w * h) w l)
 
-  pub getD-parts : (cs : List ℕ) (l : List A) (h : ℕ) → getD (parts cs l) h [] ≡ take (getD cs h 0) (block h l)
+  getD-parts : (cs : List ℕ) (l : List A) (h : ℕ) → getD (parts cs l) h [] ≡ take (getD cs h 0) (block h l)
   getD-parts [] l h = refl
   getD-parts (c ∷ cs) l zero = rw mul-zero
   getD-parts (c ∷ cs) l (suc h) = getD-parts cs (drop w l) h ∙ ap (λ (r : List A). take (getD cs h 0) (take w r)) (drop-block h l)
 
   -- l and m are the same but for block h
-  pub record Apart (h : ℕ) (l m : List A) : Type 0 where
-    pub before : take (w * h) m ≡ take (w * h) l
-    pub after : drop (w * h + w) m ≡ drop (w * h + w) l
+  record Apart (h : ℕ) (l m : List A) : Type 0 where
+    before : take (w * h) m ≡ take (w * h) l
+    after : drop (w * h + w) m ≡ drop (w * h + w) l
 
   -- a block with its count changed, and no other: that list changes, and no other
-  pub parts-set : (cs : List ℕ) (l m : List A) (h c : ℕ) → Apart h l m → parts (set cs h c) m ≡ set (parts cs l) h (take c (block h m))
+  parts-set : (cs : List ℕ) (l m : List A) (h c : ℕ) → Apart h l m → parts (set cs h c) m ≡ set (parts cs l) h (take c (block h m))
   parts-set [] l m h c r = refl
   parts-set (b ∷ cs) l m zero c r =
       let e : drop w m ≡ drop w l = rw (mul-zero, zero-add) at (r .after) in
@@ -66,7 +99,7 @@ module _ {A : Type 0} (w : ℕ) where
       ap₂ (λ (x : List A) (y : List (List A)). take b x ∷ y) t (ih ∙ ap (λ (x : List A). set (parts cs (drop w l)) h (take c (take w x))) (drop-block h m))
 
   -- a store into block h
-  pub store-apart : (h n : ℕ) (l : List A) (x : A) → n < w → Apart h l (set l (w * h + n) x)
+  store-apart : (h n : ℕ) (l : List A) (x : A) → n < w → Apart h l (set l (w * h + n) x)
   store-apart h n l x a = record { before = take-set-le (w * h) l (w * h + n) x (omega arith); after = drop-set-lt (w * h + w) l (w * h + n) x (omega arith) }
 
   -- one more at the end of list h
@@ -84,7 +117,7 @@ module _ {A : Type 0} (w : ℕ) where
   parts-clear cs l h = parts-set cs l l h 0 (record { before = refl; after = refl })
 
   -- a block's list of c elements is the first n of what begins there, n being c held to the block's size
-  pub take-held : (c n : ℕ) (l : List A) → n ≡ min c w → take c (take w l) ≡ take n l
+  take-held : (c n : ℕ) (l : List A) → n ≡ min c w → take c (take w l) ≡ take n l
   take-held c n l e = held (leb c w) refl
     where
       held : (b : Bool) → leb c w ≡ b → take c (take w l) ≡ take n l
@@ -119,7 +152,7 @@ module _ {A : Type 0} (w : ℕ) where
       (length-take (getD cs h 0) (block h l) ∙ ap (min (getD cs h 0)) (length-take-le w (drop (w * h) l) (omega (arith, length-drop (w * h) l))))
 
   -- what is read from place i of list h, whatever stands past an end
-  pub part-read : (cs : List ℕ) (l : List A) (h i : ℕ) (d z : A) → i < length (getD (parts cs l) h []) → getD (getD (parts cs l) h []) i d ≡ getD l (w * h + i) z
+  part-read : (cs : List ℕ) (l : List A) (h i : ℕ) (d z : A) → i < length (getD (parts cs l) h []) → getD (getD (parts cs l) h []) i d ≡ getD l (w * h + i) z
   part-read cs l h i d z b =
       let e = getD-parts cs l h in
       let m : i < min (getD cs h 0) (min w (length l - w * h)) =

@@ -3,22 +3,16 @@
 use Prim.Native.Nat.{ℕ, zero, suc, _+_, _<_}
 use mathlib.Core.List.{List, [], _∷_, _++_, map}
 use mathlib.Core.Path.{_≡_, refl, ap, _∙_, sym}
-use native.Mathlib.Nat.{zero-add, add-zero, suc-add}
+use native.Mathlib.Nat.{zero-add, suc-add}
 use native.Mathlib.Omega.{arith}
 use lib.ListN.{length, getD, set, take, drop, length-map, length-take, length-append, replicate}
-use lib.Seq.{getD-append-add, drop-append-add, getD-drop, take-nil}
+use lib.Seq.{take-nil}
 
 module _ {A B : Type 0} (f : A → B) where
   pub map-set : (l : List A) (i : ℕ) (a : A) → map f (set l i a) ≡ set (map f l) i (f a)
   map-set [] i a = refl
   map-set (x ∷ l) zero a = refl
   map-set (x ∷ l) (suc i) a = ap (λ (r : List B). f x ∷ r) (map-set l i a)
-
-  pub map-take : (n : ℕ) (l : List A) → map f (take n l) ≡ take n (map f l)
-  map-take zero [] = refl
-  map-take zero (x ∷ l) = refl
-  map-take (suc n) [] = refl
-  map-take (suc n) (x ∷ l) = ap (λ (r : List B). f x ∷ r) (map-take n l)
 
   pub map-append : (xs ys : List A) → map f (xs ++ ys) ≡ map f xs ++ map f ys
   map-append [] ys = refl
@@ -29,12 +23,6 @@ module _ {A B : Type 0} (f : A → B) where
   unmapped l n p = sym (length-map l f) ∙ p
 
 module _ {A : Type 0} where
-  pub getD-past : (xs ys : List A) (n m : ℕ) (d : A) → length xs ≡ n → getD (xs ++ ys) (n + m) d ≡ getD ys m d
-  getD-past xs ys n m d e = rw (← e) (getD-append-add xs ys m d)
-
-  pub drop-past : (xs ys : List A) (n m : ℕ) → length xs ≡ n → drop (n + m) (xs ++ ys) ≡ drop m ys
-  drop-past xs ys n m e = rw (← e) (drop-append-add xs ys m)
-
   pub drop-take : (n m : ℕ) (l : List A) → drop n (take (n + m) l) ≡ take m (drop n l)
   drop-take zero m l = rw zero-add
   drop-take (suc n) m [] = rw (take-nil (suc n + m), take-nil m)
@@ -47,13 +35,6 @@ module _ {A : Type 0} where
   set-rel R q (x ∷ xs) zero (suc h) v d e = q (getD xs h d)
   set-rel R q (x ∷ xs) (suc i) zero v d e = q x
   set-rel R q (x ∷ xs) (suc i) (suc h) v d e = set-rel R q xs i h v d e
-
-  -- two lists that agree from a place on agree there
-  pub getD-same-rest : (l s : List A) (j : ℕ) (d : A) → drop j s ≡ drop j l → getD s j d ≡ getD l j d
-  getD-same-rest l s j d e =
-      let a = rw add-zero at (getD-drop j s 0 d) in
-      let b = rw add-zero at (getD-drop j l 0 d) in
-      sym a ∙ ap (λ (r : List A). getD r 0 d) e ∙ b
 
   -- as many as there are, of the first n
   pub take-taken : (n i : ℕ) (l : List A) → i ≡ length (take n l) → take i l ≡ take n l

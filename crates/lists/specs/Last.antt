@@ -1,6 +1,6 @@
 -- The place of the last element that a weight counts: what is taken from the front of the list brings it nearer.
 -- Assumes nothing.
-use Prim.Native.Nat.{ℕ, suc, _+_, _-_, _≤_}
+use Prim.Native.Nat.{ℕ, suc, _-_, _≤_}
 use mathlib.Core.Bool.{cond}
 use mathlib.Core.List.{List, [], _∷_, _++_, map}
 use mathlib.Core.Path.{_≡_, refl}
@@ -23,7 +23,7 @@ module _ {A : Type 0} where
   last-map f g (x ∷ xs) e = simp (e x, last-map f g xs e)
 
   -- nothing is counted
-  pub last-zero : (f : A → ℕ) (xs : List A) → sum f xs ≡ 0 → last f xs ≡ 0
+  last-zero : (f : A → ℕ) (xs : List A) → sum f xs ≡ 0 → last f xs ≡ 0
   last-zero f [] e = refl
   last-zero f (x ∷ xs) e = rw (last-zero f xs (omega arith)) (omega arith)
 

@@ -9,12 +9,12 @@ use lib.Dec.{leb, ltb}
 use lib.ListN.{length, getD}
 use borrow.Author.Tests.{le-ltb, ltb-true, ltb-false, le-leb, lt-leb}
 use Rattle.lists.specs.Places.{least, without}
-use Rattle.lists.specs.Sums.{sum, any, any-none, none-any, any-fewer, any-keep, keep}
+use Rattle.lists.specs.Sums.{sum, sum-split, any, any-none, none-any, any-fewer, keep}
 use Rattle.lists.specs.Tests.{bit, split, clash, neither}
 
 module _ {A : Type 0} where
   -- before the first that is not less
-  abbrev pub insert : (A → ℕ) → A → List A → List A
+  abbrev insert : (A → ℕ) → A → List A → List A
   insert k x [] = x ∷ []
   insert k x (y ∷ ys) = cond (leb (k x) (k y)) (x ∷ y ∷ ys) (y ∷ insert k x ys)
 
@@ -22,7 +22,7 @@ module _ {A : Type 0} where
   sort k [] = []
   sort k (x ∷ xs) = insert k x (sort k xs)
 
-  pub sum-insert : (f k : A → ℕ) (x : A) (ys : List A) → sum f (insert k x ys) ≡ f x + sum f ys
+  sum-insert : (f k : A → ℕ) (x : A) (ys : List A) → sum f (insert k x ys) ≡ f x + sum f ys
   sum-insert f k x [] = refl
   sum-insert f k x (y ∷ ys) =
       let ih = sum-insert f k x ys in
@@ -38,7 +38,7 @@ module _ {A : Type 0} (k : A → ℕ) where
   less-fewer a b xs h e = any-fewer (λ y. ltb (k y) b) (λ y. ltb (k y) a) xs (λ y q. le-ltb (k y) b (omega (arith, ltb-false (k y) a q))) e
 
   -- the least is less than a bound that one is less than
-  pub least-less : (xs : List A) (d : A) (c : ℕ) → any (λ y. ltb (k y) c) xs ≡ true → k (getD xs (least k xs) d) < c
+  least-less : (xs : List A) (d : A) (c : ℕ) → any (λ y. ltb (k y) c) xs ≡ true → k (getD xs (least k xs) d) < c
   least-less [] d c e = clash e refl
   least-less (x ∷ xs) d c e =
       split (any (λ y. ltb (k y) (k x)) xs)
@@ -69,6 +69,10 @@ module _ {A : Type 0} (k : A → ℕ) where
   -- the order makes no difference to a test
   any-sort : (q : A → Bool) (xs : List A) → any q xs ≡ false → any q (sort k xs) ≡ false
   any-sort q xs e = none-any q (sort k xs) (sum-sort (λ x. bit (q x)) k xs ∙ any-none q xs e)
+
+  -- none of those kept passes a test that none of all passes
+  any-keep : (p q : A → Bool) (xs : List A) → any q xs ≡ false → any q (keep p xs) ≡ false
+  any-keep p q xs e = none-any q (keep p xs) (omega (arith, any-none q xs e, sum-split (λ x. bit (q x)) p xs))
 
   -- of those up to a bound, the least comes first, and then the rest in their order
   pub sort-least : (n : ℕ) (xs : List A) (d : A) → least k xs < length xs → k (getD xs (least k xs) d) ≤ n

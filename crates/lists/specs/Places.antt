@@ -96,7 +96,7 @@ module _ {A : Type 0} where
       (λ r. simp (t, e, r, least-last k (k x) l y e (ltb-true (k y) (k x) r)))
       (λ r. simp (t, e, r)))
 
-  pub least-snoc : (k : A → ℕ) (x : A) (l : List A) (y d : A)
+  least-snoc : (k : A → ℕ) (x : A) (l : List A) (y d : A)
       → least k ((x ∷ l) ++ (y ∷ [])) ≡ cond (ltb (k y) (k (getD (x ∷ l) (least k (x ∷ l)) d))) (length (x ∷ l)) (least k (x ∷ l))
   least-snoc k x [] y d = least-step k x [] y d (λ e. clash e refl)
   least-snoc k x (z ∷ l) y d = least-step k x (z ∷ l) y d (λ _. least-snoc k z l y d)
@@ -112,11 +112,6 @@ module _ {A : Type 0} where
       let t : getD (x ∷ take i l) (least k (x ∷ take i l)) d ≡ getD (x ∷ l) (least k (x ∷ take i l)) d =
       getD-take (suc i) (x ∷ l) (least k (x ∷ take i l)) d (let m = least-lt k (x ∷ take i l) (omega arith) in omega arith) in
       rw (add-one (suc i), take-suc l i d) (least-snoc k x (take i l) (getD l i d) d ∙ rw (t, n))
-
-  pub length-without : (i : ℕ) (l : List A) → i < length l → length (without i l) + 1 ≡ length l
-  length-without i [] h = absurd (omega arith)
-  length-without zero (x ∷ l) h = omega arith
-  length-without (suc i) (x ∷ l) h = omega (arith, length-without i l (omega arith))
 
   pub without-past : (i : ℕ) (l : List A) → length l ≤ i → without i l ≡ l
   without-past i [] h = refl
@@ -145,18 +140,6 @@ module _ {A : Type 0} where
   keep-without p zero (x ∷ xs) d e = rw e
   keep-without p (suc i) (x ∷ xs) d e = rw (keep-without p i xs d e)
 
-  pub take-without : (i : ℕ) (l : List A) → take i (without i l) ≡ take i l
-  take-without zero [] = refl
-  take-without zero (x ∷ l) = refl
-  take-without (suc i) [] = refl
-  take-without (suc i) (x ∷ l) = rw (take-without i l)
-
-  pub drop-without : (i : ℕ) (l : List A) → drop i (without i l) ≡ without 0 (drop i l)
-  drop-without zero [] = refl
-  drop-without zero (x ∷ l) = refl
-  drop-without (suc i) [] = refl
-  drop-without (suc i) (x ∷ l) = drop-without i l
-
   pub without-first : (l : List A) → without 0 l ≡ drop 1 l
   without-first [] = refl
   without-first (x ∷ l) = refl
@@ -173,5 +156,7 @@ module _ {A : Type 0} where
       (λ e. let q = eqb-true i h e in
       rw (e, add-one, ← q, without-last i l b, without-past i (take i l) (omega arith)) (sym (or-false (any p (take i l)))))
       (λ e. split (ltb i h)
-      (λ f. rw (e, add-one, t, without-past h (take i l ++ (x ∷ [])) (omega (arith, length-append (take i l) (x ∷ []), ltb-true i h f)), without-past h (take i l) (omega (arith, ltb-true i h f))) (more (take i l)))
+      (λ f. let k : i < h = ltb-true i h f in
+      let past : without h (take i l ++ (x ∷ [])) ≡ take i l ++ (x ∷ []) = without-past h (take i l ++ (x ∷ [])) (omega (arith, length-append (take i l) (x ∷ []))) in
+      rw (e, add-one, t, past, without-past h (take i l) (omega arith)) (more (take i l)))
       (λ f. rw (e, add-one, t, without-append h (take i l) (x ∷ []) (omega (arith, ltb-false i h f, eqb-false i h e))) (more (without h (take i l)))))

@@ -14,10 +14,10 @@ use Rattle.lists.specs.Tests.{split}
 
 module _ {A : Type 0} (owner : A → ℕ) (f : A → ℕ) where
   -- of those that belong to number h, and of those that belong to a number from k on
-  abbrev pub under : ℕ → A → ℕ
+  abbrev under : ℕ → A → ℕ
   under h x = cond (eqb (owner x) h) (f x) 0
 
-  abbrev pub beyond : ℕ → A → ℕ
+  abbrev beyond : ℕ → A → ℕ
   beyond k x = cond (leb k (owner x)) (f x) 0
 
   beyond-next : (k : ℕ) (x : A) → beyond k x ≤ beyond (suc k) x + under k x

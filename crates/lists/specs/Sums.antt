@@ -1,7 +1,7 @@
 -- Sums of a weight over a list, those that pass a test, whether one does.
 -- Assumes nothing.
-use Prim.Native.Nat.{ℕ, zero, suc, _+_, _*_, _≤_, _<_}
-use mathlib.Core.Bool.{Bool, true, false, cond, _||_, not}
+use Prim.Native.Nat.{ℕ, _+_, _≤_, _<_}
+use mathlib.Core.Bool.{Bool, false, cond, _||_, not}
 use mathlib.Core.List.{List, [], _∷_, _++_, map}
 use mathlib.Core.Path.{_≡_, refl, ap, _∙_}
 use native.Mathlib.Numerals.{add-one}
@@ -44,11 +44,6 @@ module _ {A : Type 0} where
   sum-plus f g [] = refl
   sum-plus f g (x ∷ xs) = omega (arith, sum-plus f g xs)
 
-  -- weights of at most w
-  pub sum-most : (w : ℕ) (f : A → ℕ) (xs : List A) → ((x : A) → f x ≤ w) → sum f xs ≤ length xs * w
-  sum-most w f [] h = omega arith
-  sum-most w f (x ∷ xs) h = omega (arith, sum-most w f xs h, h x)
-
   -- a loop over the first i elements goes on to the next
   pub sum-next : (f : A → ℕ) (l : List A) (i : ℕ) (d : A) → i < length l → sum f (take (i + 1) l) ≡ sum f (take i l) + f (getD l i d)
   sum-next f l i d h = rw (add-one, take-suc l i d) (omega (arith, sum-append f (take i l) (getD l i d ∷ [])))
@@ -72,18 +67,6 @@ module _ {A : Type 0} where
   sum-keep f p [] = refl
   sum-keep f p (x ∷ xs) =
       let ih = sum-keep f p xs in
-      split (p x) (λ e. rw e (omega arith)) (λ e. rw e (omega arith))
-
-  pub keep-append : (p : A → Bool) (xs ys : List A) → keep p (xs ++ ys) ≡ keep p xs ++ keep p ys
-  keep-append p [] ys = refl
-  keep-append p (x ∷ xs) ys =
-      let ih = keep-append p xs ys in
-      split (p x) (λ e. rw e (ap (λ (l : List A). x ∷ l) ih)) (λ e. rw e ih)
-
-  pub length-keep : (p : A → Bool) (xs : List A) → length (keep p xs) ≤ length xs
-  length-keep p [] = omega arith
-  length-keep p (x ∷ xs) =
-      let ih = length-keep p xs in
       split (p x) (λ e. rw e (omega arith)) (λ e. rw e (omega arith))
 
   -- how many pass a test
@@ -126,25 +109,12 @@ module _ {A : Type 0} where
       rw (add-one, take-suc l i d, any-append, e)
       (split (p (getD l i d)) (λ q. rw q) (λ q. rw q))
 
-  -- what one of the first elements passes, one of all does
-  pub any-taken : (p : A → Bool) (l : List A) (i n : ℕ) (d : A) → i < n → i < length l → p (getD l i d) ≡ true → any p (take n l) ≡ true
-  any-taken p [] i n d h k e = absurd (omega arith)
-  any-taken p (x ∷ l) i zero d h k e = absurd (omega arith)
-  any-taken p (x ∷ l) zero (suc n) d h k e = rw e
-  any-taken p (x ∷ l) (suc i) (suc n) d h k e =
-      let ih = any-taken p l i n d (omega arith) (omega arith) e in
-      split (p x) (λ q. rw q) (λ q. rw (q, ih))
-
   -- none passes a test that asks for more
   pub any-fewer : (p q : A → Bool) (xs : List A) → ((x : A) → q x ≡ false → p x ≡ false) → any q xs ≡ false → any p xs ≡ false
   any-fewer p q [] h e = refl
   any-fewer p q (x ∷ xs) h e =
       let m = neither (q x) (any q xs) e in
       rw (h x (m .0), any-fewer p q xs h (m .1))
-
-  -- none of those kept passes a test that none of all passes
-  pub any-keep : (p q : A → Bool) (xs : List A) → any q xs ≡ false → any q (keep p xs) ≡ false
-  any-keep p q xs e = none-any q (keep p xs) (omega (arith, any-none q xs e, sum-split (λ x. bit (q x)) p xs))
 
   -- where none passes the test: none is kept by it, and all by its opposite
   pub keep-none : (p : A → Bool) (xs : List A) → any p xs ≡ false → keep p xs ≡ []

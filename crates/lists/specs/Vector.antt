@@ -1,7 +1,7 @@
 -- A list of at most k elements, kept as `take count slots` in an array of k slots.
 -- Each operation on the array is a loop: what it has made after j turns, how that begins, goes on and ends.
 -- Assumes nothing.
-use Prim.Native.Nat.{ℕ, suc, _+_, _-_, _≤_, _<_}
+use Prim.Native.Nat.{ℕ, zero, suc, _+_, _-_, _≤_, _<_, min}
 use mathlib.Core.Bool.{Bool, true, false, cond}
 use mathlib.Core.List.{List, [], _∷_, _++_, map, append-assoc, append-nil}
 use mathlib.Core.Path.{_≡_, refl, ap, ap₂, _∙_, sym}
@@ -10,11 +10,12 @@ use native.Mathlib.Numerals.{add-one}
 use native.Mathlib.Omega.{arith}
 use lib.Dec.{ltb}
 use lib.ListN.{length, getD, set, take, drop, length-map, length-take, length-append, length-set, take-append-drop, drop-of-length-le, replicate, length-replicate, replicate-append-replicate}
-use lib.Seq.{take-suc, drop-cons, set-at, getD-at, take-all, take-at, length-take-le, append-snoc, take-suc-set, take-set-le, drop-set-lt, getD-drop, drop-drop, take-append-le, take-take, getD-take, drop-append-le}
+use lib.Seq.{take-suc, take-all, take-at, take-suc-set, take-set-le, take-append-le, length-take-le, append-snoc}
+use lib.Seq.{getD-at, getD-take, getD-drop, getD-append-add, set-at, drop-cons, drop-drop, drop-set-lt}
 use borrow.Author.Tests.{lt-ltb, le-ltb, ltb-true, ltb-false}
-use Rattle.lists.specs.Elements.{map-append, getD-past, getD-same-rest, drop-past, drop-take, take-taken, getD-within}
-use Rattle.lists.specs.Places.{first, first-here, first-none, without, without-append, without-last, length-without, take-without, drop-without}
-use Rattle.lists.specs.Sums.{sum, sum-next, any, any-next, any-taken, keep, keep-append}
+use Rattle.lists.specs.Elements.{map-append, take-taken, getD-within}
+use Rattle.lists.specs.Places.{first, first-here, first-none, without, without-append, without-last}
+use Rattle.lists.specs.Sums.{sum, sum-next, any, any-next, keep}
 use Rattle.lists.specs.Tests.{bit, split}
 
 module _ {A : Type 0} where
@@ -22,14 +23,27 @@ module _ {A : Type 0} where
   abbrev pub put : ℕ → List A → A → List A
   put k l x = cond (ltb (length l) k) (l ++ (x ∷ [])) l
 
+  -- a count past the array's size counts as that
+  pub length-held : (c k n : ℕ) (l : List A) → length l ≡ k → n ≡ min c k → n ≡ length (take c l)
+  length-held c k n l e h = rw (length-take c l, e) h
+
   pub length-over : (n k : ℕ) (l : List A) → length l ≡ k → k ≤ n → length (take n l) ≡ k
-  length-over n k l e h = rw (take-all n l (omega arith)) e
+  length-over n k l e h = sym (length-held n k k l e (omega arith))
 
   pub put-room : (k n : ℕ) (l : List A) (x : A) → length l ≡ k → n < k → take (n + 1) (set l n x) ≡ put k (take n l) x
   put-room k n l x e h = rw (add-one, take-suc-set l n x (omega arith), length-take-le n l (omega arith), lt-ltb n k h)
 
   pub put-full : (k n : ℕ) (l : List A) (x : A) → length l ≡ k → k ≤ n → take n l ≡ put k (take n l) x
   put-full k n l x e h = rw (length-over n k l e h, le-ltb k k (omega arith))
+
+  -- what one of the first elements passes, one of all does
+  any-taken : (p : A → Bool) (l : List A) (i n : ℕ) (d : A) → i < n → i < length l → p (getD l i d) ≡ true → any p (take n l) ≡ true
+  any-taken p [] i n d h k e = absurd (omega arith)
+  any-taken p (x ∷ l) i zero d h k e = absurd (omega arith)
+  any-taken p (x ∷ l) zero (suc n) d h k e = rw e
+  any-taken p (x ∷ l) (suc i) (suc n) d h k e =
+      let ih = any-taken p l i n d (omega arith) (omega arith) e in
+      split (p x) (λ q. rw q) (λ q. rw (q, ih))
 
 -- a loop over the n elements of the list: turn i looks at slot i
 module _ {A : Type 0} (l : List A) (c n : ℕ) (e : n ≡ length (take c l)) where
@@ -71,7 +85,15 @@ module _ {A : Type 0} where
   abbrev pub shifted : ℕ → ℕ → List A → List A
   shifted i j l = without i (take (suc j) l) ++ drop j l
 
-  length-shift-head : (i j : ℕ) (l : List A) → i ≤ j → j < length l → length (without i (take (suc j) l)) ≡ j
+  length-without : (i : ℕ) (l : List A) → i < length l → length (without i l) + 1 ≡ length l
+  length-without i [] h = absurd (omega arith)
+  length-without zero (x ∷ l) h = omega arith
+  length-without (suc i) (x ∷ l) h = omega (arith, length-without i l (omega arith))
+
+  getD-past : (xs ys : List A) (n m : ℕ) (d : A) → length xs ≡ n → getD (xs ++ ys) (n + m) d ≡ getD ys m d
+  getD-past xs ys n m d e = rw (← e) (getD-append-add xs ys m d)
+
+  pub length-shift-head : (i j : ℕ) (l : List A) → i ≤ j → j < length l → length (without i (take (suc j) l)) ≡ j
   length-shift-head i j l a b = omega (arith, length-without i (take (suc j) l) (omega (arith, length-take-le (suc j) l b)), length-take-le (suc j) l b)
 
   pub shift-start : (i : ℕ) (l : List A) → i < length l → l ≡ shifted i i l
@@ -94,23 +116,6 @@ module _ {A : Type 0} where
   pub shift-out : (i j n : ℕ) (l : List A) → i ≤ j → j + 1 ≡ length (take n l) → take j (shifted i j l) ≡ without i (take n l)
   shift-out i j n l a e = shift-end i j l a (omega (arith, length-take n l)) ∙ ap (without i) (take-taken n (suc j) l (omega arith))
 
-  -- what is before i, and what is past j, stays; what is from i on is shifted by itself
-  pub take-shifted : (i j : ℕ) (l : List A) → i ≤ j → j < length l → take i (shifted i j l) ≡ take i l
-  take-shifted i j l a b =
-      take-append-le i (without i (take (suc j) l)) (drop j l) (omega (arith, length-shift-head i j l a b))
-      ∙ take-without i (take (suc j) l)
-      ∙ take-take i (suc j) l (omega arith)
-
-  pub drop-shifted-past : (i j k : ℕ) (l : List A) → i ≤ j → j < length l → drop (j + k) (shifted i j l) ≡ drop (j + k) l
-  drop-shifted-past i j k l a b = drop-past (without i (take (suc j) l)) (drop j l) j k (length-shift-head i j l a b) ∙ drop-drop k j l
-
-  pub drop-shifted : (i m : ℕ) (l : List A) → i + m < length l → drop i (shifted i (i + m) l) ≡ shifted 0 m (drop i l)
-  drop-shifted i m l b =
-      let s : suc (i + m) ≡ i + suc m = omega arith in
-      let a : drop i (take (suc (i + m)) l) ≡ take (suc m) (drop i l) = rw s (drop-take i (suc m) l) in
-      drop-append-le i (without i (take (suc (i + m)) l)) (drop (i + m) l) (omega (arith, length-shift-head i (i + m) l (omega arith) b))
-      ∙ rw (drop-without i (take (suc (i + m)) l), a, drop-drop m i l)
-
 module _ {A : Type 0} (f : A → A) where
   -- each element changed: those before place j
   abbrev pub mapped : ℕ → List A → List A
@@ -120,7 +125,8 @@ module _ {A : Type 0} (f : A → A) where
   mapped-next j l d h =
       let n : length (map f (take j l)) ≡ j = length-map (take j l) f ∙ length-take-le j l (omega arith) in
       let g : drop j l ≡ getD l j d ∷ drop (suc j) l = drop-cons l j d h in
-      rw (g, getD-at (map f (take j l)) (getD l j d) (drop (suc j) l) d j n, set-at (map f (take j l)) (getD l j d) (drop (suc j) l) (f (getD l j d)) j n, add-one, take-suc l j d h, map-append f (take j l) (getD l j d ∷ []))
+      let v : getD (mapped j l) j d ≡ getD l j d = rw g (getD-at (map f (take j l)) (getD l j d) (drop (suc j) l) d j n) in
+      rw (v, g, set-at (map f (take j l)) (getD l j d) (drop (suc j) l) (f (getD l j d)) j n, add-one, take-suc l j d h, map-append f (take j l) (getD l j d ∷ []))
       (sym (append-snoc (map f (take j l)) (f (getD l j d)) (drop (suc j) l)))
 
   -- where the list is the first c slots: all of it is changed, whatever stands past it
@@ -136,6 +142,19 @@ module _ {A : Type 0} (f : A → A) where
       rw t (take-append-le c (map f (take c l)) (drop j l) (omega (arith, length-take c l)) ∙ take-all c (map f (take c l)) (omega (arith, length-take c l))))
 
 module _ {A : Type 0} (p : A → Bool) where
+  keep-append : (xs ys : List A) → keep p (xs ++ ys) ≡ keep p xs ++ keep p ys
+  keep-append [] ys = refl
+  keep-append (x ∷ xs) ys =
+      let ih = keep-append xs ys in
+      split (p x) (λ e. rw e (ap (λ (l : List A). x ∷ l) ih)) (λ e. rw e ih)
+
+  -- two lists that agree from a place on agree there
+  getD-same-rest : (l s : List A) (j : ℕ) (d : A) → drop j s ≡ drop j l → getD s j d ≡ getD l j d
+  getD-same-rest l s j d e =
+      let a = rw add-zero at (getD-drop j s 0 d) in
+      let b = rw add-zero at (getD-drop j l 0 d) in
+      sym a ∙ ap (λ (r : List A). getD r 0 d) e ∙ b
+
   -- those that fail a test taken out: of the first j of l, those that pass are the first k of s, and s is still l from place j on
   pub record Kept (l : List A) (j : ℕ) (s : List A) (k : ℕ) : Type 0 where
     pub same : length s ≡ length l
@@ -151,7 +170,7 @@ module _ {A : Type 0} (p : A → Bool) where
   keep-next l j s k d h r =
       let g : getD s j d ≡ getD l j d = getD-same-rest l s j d (r .rest) in
       let k′ : k < length s = omega (arith, r .same, r .most) in
-      let t : keep p (take (j + 1) l) ≡ keep p (take j l) ++ cond (p (getD s j d)) (getD s j d ∷ []) [] = rw (add-one, take-suc l j d h, g) (keep-append p (take j l) (getD l j d ∷ [])) in
+      let t : keep p (take (j + 1) l) ≡ keep p (take j l) ++ cond (p (getD s j d)) (getD s j d ∷ []) [] = rw (add-one, take-suc l j d h, g) (keep-append (take j l) (getD l j d ∷ [])) in
       record {
         same = length-set s k (getD s j d) ∙ r .same;
         most = split (p (getD s j d)) (λ e. rw e (omega (arith, r .most))) (λ e. rw e (omega (arith, r .most)));

@@ -12,9 +12,9 @@ use Rattle.rules.specs.BusStart.{doBusStart}
 use Rattle.rules.specs.Call.{unless, check}
 use Rattle.rules.specs.Configure.{doConfigure}
 use Rattle.rules.specs.Core.{sends, answers, notes}
-use Rattle.rules.specs.Deliver.{copyTo, copies}
+use Rattle.rules.specs.Deliver.{copyToBy, copiesBy}
 use Rattle.rules.specs.Mode.{doMode}
-use Rattle.rules.specs.Number.{numberAfter}
+use Rattle.rules.specs.Number.{sequenceAfter}
 use Rattle.rules.specs.Open.{doOpen}
 use Rattle.rules.specs.Owed.{roomOwed, repliesWanted, isTaken}
 use Rattle.rules.specs.Receive.{doReceive}
@@ -63,5 +63,6 @@ lines =
     ∷ 53 ∷ 32 ∷ 48 ∷ 32 ∷ 49 ∷ 32 ∷ 49 ∷ 32 ∷ 48 ∷ 32 ∷ 50 ∷ 10 ∷ []
 
 pub received-entry : Prints session lines
-unfolding bodyLength callOf played grown next finished decimal message fresh roomOwed repliesWanted isTaken copyTo copies unless check doOpen numberAfter doTransmit doReceive doBusStart doBusResult isFinal keptCounts doConfigure sends answers notes
+unfolding bodyLength callOf played grown next finished decimal message fresh roomOwed repliesWanted isTaken copyToBy
+    copiesBy unless check doOpen sequenceAfter doTransmit doReceive doBusStart doBusResult isFinal keptCounts doConfigure sends answers notes
 received-entry = refl

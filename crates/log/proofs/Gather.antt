@@ -167,7 +167,8 @@ pub known-turn : (s : Session) (b : ℕ) (bs : List ℕ) → (eqb (length (s .he
     → (next s b ≡ grown s (put 28 (s .held) b)) × (turn s (gather (s .held) (b ∷ bs)) ≡ grown s (gather (s .held) (b ∷ bs)))
 unfolding next turn
 known-turn s b bs t =
-    let k : eqb (length (s .held)) 0 ≡ true → kindOf (gather (s .held) (b ∷ bs)) ≡ b = λ z. ap (λ (h : List ℕ). kindOf (gather h (b ∷ bs))) (nil (s .held) (eqb-true (length (s .held)) 0 z)) ∙ first-kind b bs in
+    let k : eqb (length (s .held)) 0 ≡ true → kindOf (gather (s .held) (b ∷ bs)) ≡ b =
+    λ z. ap (λ (h : List ℕ). kindOf (gather h (b ∷ bs))) (nil (s .held) (eqb-true (length (s .held)) 0 z)) ∙ first-kind b bs in
     let u : (eqb (length (s .held)) 0 && not (isKind (kindOf (gather (s .held) (b ∷ bs))))) ≡ false =
     split (eqb (length (s .held)) 0)
     (λ z. ap (λ (x : ℕ). eqb (length (s .held)) 0 && not (isKind x)) (k z) ∙ t)

@@ -152,8 +152,9 @@ plays-from (suc n) st place (kind ∷ rest) h =
     (λ e. let l = ltb-true (length rest) (bodyLength kind) e in plays-same _ _ st _ _ (fed-cut st place kind rest k l) (read-cut n place kind rest k l) (cut-plays st place kind rest))
     (λ e. let l = ltb-false (length rest) (bodyLength kind) e in
     let r = kind ∷ take (bodyLength kind) rest in
-    plays-same _ _ st _ _ (fed-whole st place kind rest k l) (read-whole n place kind rest k l) (record-plays st place r (drop (bodyLength kind) rest) (readAt n (placeAfter place (length r)) (drop (bodyLength kind) rest))
-    (plays-from n (step st (callOf r) .state) (placeAfter place (length r)) (drop (bodyLength kind) rest) (omega (arith, length-drop (bodyLength kind) rest))))))
+    let more = drop (bodyLength kind) rest in
+    let later = plays-from n (step st (callOf r) .state) (placeAfter place (length r)) more (omega (arith, length-drop (bodyLength kind) rest)) in
+    plays-same _ _ st _ _ (fed-whole st place kind rest k l) (read-whole n place kind rest k l) (record-plays st place r more (readAt n (placeAfter place (length r)) more) later)))
     (λ k. plays-same _ _ st _ _ (fed-bad st place kind rest k) (read-bad n place kind rest k) (bad-plays st place rest))
 
 -- The lines are those of `run` over the calls read from the log, and the end state is that of the calls.

@@ -11,7 +11,7 @@ use lib.Seq.{getD-take, take-take}
 use borrow.Author.Tests.{eqb-true}
 use Rattle.lists.specs.Elements.{drop-take}
 use Rattle.lists.specs.Tests.{split}
-use Rattle.log.specs.Record.{bodyLength, byteAt, numberAt, kindOf, callOf, openOf, modeOf, transmitOf, resultOf, messageOf, configureOf}
+use Rattle.log.specs.Record.{bodyLength, byteAt, numberAt, kindOf, callOf, openOf, modeOf, transmitOf, resultOf, incomingOf, configureOf}
 use Rattle.rules.specs.Call.{Call, callClose, callReceive, callBusStart, callTime, callUnconfigure}
 
 byte-held : (r : List ℕ) (n at : ℕ) → at < n → byteAt (take n r) at ≡ byteAt r at
@@ -37,7 +37,7 @@ callBy kind r =
     (cond (eqb kind 6) callBusStart
     (cond (eqb kind 7) (resultOf r)
     (cond (eqb kind 8) (callTime (numberAt r 1 4))
-    (cond (eqb kind 9) (messageOf r)
+    (cond (eqb kind 9) (incomingOf r)
     (cond (eqb kind 10) (configureOf r) callUnconfigure)))))))))
 
 length-of : (kind k : ℕ) → eqb kind k ≡ true → bodyLength kind ≡ bodyLength k
@@ -50,7 +50,8 @@ by-kind kind r n h =
     (λ e. rw e (split (eqb kind 2) (λ e. rw (e, byte-held r n 1 (omega (arith, length-of kind 2 e))))
     (λ e. rw e (split (eqb kind 3) (λ e. let m : 6 ≤ n = omega (arith, length-of kind 3 e) in rw (e, byte-held r n 1 (omega arith), number-held r n 2 4 (omega arith)))
     (λ e. rw e (split (eqb kind 4) (λ e. let m : 28 ≤ n = omega (arith, length-of kind 4 e) in
-    rw (e, byte-held r n 1 (omega arith), byte-held r n 2 (omega arith), bytes-held r n 3 16 (omega arith), byte-held r n 19 (omega arith), number-held r n 20 4 (omega arith), number-held r n 24 4 (omega arith)))
+    let a = byte-held r n 1 (omega arith) in
+    rw (e, a, byte-held r n 2 (omega arith), bytes-held r n 3 16 (omega arith), byte-held r n 19 (omega arith), number-held r n 20 4 (omega arith), number-held r n 24 4 (omega arith)))
     (λ e. rw e (split (eqb kind 5) (λ e. rw (e, byte-held r n 1 (omega (arith, length-of kind 5 e))))
     (λ e. rw e (split (eqb kind 6) (λ e. rw e)
     (λ e. rw e (split (eqb kind 7) (λ e. let m : 6 ≤ n = omega (arith, length-of kind 7 e) in
@@ -58,7 +59,9 @@ by-kind kind r n h =
     (λ e. rw e (split (eqb kind 8) (λ e. rw (e, number-held r n 1 4 (omega (arith, length-of kind 8 e))))
     (λ e. rw e (split (eqb kind 9) (λ e. let m : 18 ≤ n = omega (arith, length-of kind 9 e) in rw (e, byte-held r n 1 (omega arith), bytes-held r n 2 16 (omega arith)))
     (λ e. rw e (split (eqb kind 10) (λ e. let m : 25 ≤ n = omega (arith, length-of kind 10 e) in
-    rw (e, number-held r n 1 2 (omega arith), number-held r n 3 2 (omega arith), byte-held r n 5 (omega arith), byte-held r n 6 (omega arith), number-held r n 7 3 (omega arith), byte-held r n 10 (omega arith), bytes-held r n 11 14 (omega arith)))
+    let a = number-held r n 1 2 (omega arith) in
+    let b = number-held r n 3 2 (omega arith) in
+    rw (e, a, b, byte-held r n 5 (omega arith), byte-held r n 6 (omega arith), number-held r n 7 3 (omega arith), byte-held r n 10 (omega arith), bytes-held r n 11 14 (omega arith)))
     (λ e. rw e)))))))))))))))))))
 
 pub kind-held : (r : List ℕ) (n : ℕ) → 0 < n → kindOf (take n r) ≡ kindOf r

@@ -45,21 +45,38 @@ openOf r = callOpen (not (eqb (byteAt r 1) 0))
 abbrev pub modeOf : List ℕ → Call
 modeOf r = callMode (byteAt r 1) (numberAt r 2 4)
 
--- handle, length, 16 bytes, reply, timeout 4, flags 4. "bytes past a length are ignored" by the rules: `messageOf`
-abbrev pub transmitOf : List ℕ → Call
-transmitOf r = callTransmit (byteAt r 1) (record { length = byteAt r 2; bytes = take 16 (drop 3 r); reply = byteAt r 19; timeout = numberAt r 20 4; flags = numberAt r 24 4 })
+-- length, 16 bytes, reply, timeout 4, flags 4, after the handle. "bytes past a length are ignored" by the rules: `requestMessage`
+abbrev pub requestIn : List ℕ → Request
+requestIn r = record { length = byteAt r 2; bytes = take 16 (drop 3 r); reply = byteAt r 19; timeout = numberAt r 20 4; flags = numberAt r 24 4 }
 
--- status, four counts
+abbrev pub transmitOf : List ℕ → Call
+transmitOf r = callTransmit (byteAt r 1) (requestIn r)
+
+-- four counts, after the status
+abbrev pub countsIn : List ℕ → Counts
+countsIn r = record { «arb_lost» = byteAt r 2; nack = byteAt r 3; «low_drive» = byteAt r 4; error = byteAt r 5 }
+
 abbrev pub resultOf : List ℕ → Call
-resultOf r = callBusResult (byteAt r 1) (record { «arb_lost» = byteAt r 2; nack = byteAt r 3; «low_drive» = byteAt r 4; error = byteAt r 5 })
+resultOf r = callBusResult (byteAt r 1) (countsIn r)
 
 -- length, 16 bytes
-abbrev pub messageOf : List ℕ → Call
-messageOf r = callMessage (byteAt r 1) (take 16 (drop 2 r))
+abbrev pub incomingOf : List ℕ → Call
+incomingOf r = callMessage (byteAt r 1) (take 16 (drop 2 r))
 
 -- address 2, mask 2, version, type, vendor 3, name length, 14 bytes
+abbrev pub settingsIn : List ℕ → Settings
+settingsIn r = record {
+  «physical_address» = numberAt r 1 2;
+  mask = numberAt r 3 2;
+  version = byteAt r 5;
+  «device_type» = byteAt r 6;
+  «vendor_id» = numberAt r 7 3;
+  «name_length» = byteAt r 10;
+  name = take 14 (drop 11 r);
+}
+
 abbrev pub configureOf : List ℕ → Call
-configureOf r = callConfigure (record { «physical_address» = numberAt r 1 2; mask = numberAt r 3 2; version = byteAt r 5; «device_type» = byteAt r 6; «vendor_id» = numberAt r 7 3; «name_length» = byteAt r 10; name = take 14 (drop 11 r) })
+configureOf r = callConfigure (settingsIn r)
 
 -- the call of a record, by its kind
 unfoldable pub callOf : List ℕ → Call
@@ -72,5 +89,5 @@ callOf r =
     (cond (eqb (kindOf r) 6) callBusStart
     (cond (eqb (kindOf r) 7) (resultOf r)
     (cond (eqb (kindOf r) 8) (callTime (numberAt r 1 4))
-    (cond (eqb (kindOf r) 9) (messageOf r)
+    (cond (eqb (kindOf r) 9) (incomingOf r)
     (cond (eqb (kindOf r) 10) (configureOf r) callUnconfigure)))))))))

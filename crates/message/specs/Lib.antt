@@ -1,3 +1,3 @@
 pub mod Message
 pub mod Reply
-pub mod Head
+pub mod Prefix

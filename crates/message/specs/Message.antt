@@ -1,15 +1,17 @@
 -- A CEC message: its bytes, its addresses and its opcode (document 01, "The adapter's parts").
 -- Assumes nothing.
 use Prim.Native.Nat.{ℕ, _-_, _/_, _%_, min}
+use mathlib.Core.Bool.{Bool}
 use mathlib.Core.List.{List, _++_}
+use lib.Dec.{eqb}
 use lib.ListN.{getD, length, take, replicate}
+use Rattle.constants.specs.Kernel.{CEC-MSG-FEATURE-ABORT}
 use Rattle.message.specs.declared.Message.{Message}
 
 -- the message of a length and 16 bytes: a length past 16 counts as 16, and bytes past the length are 0
 unfoldable pub message : ℕ → List ℕ → Message
 message n bs = record { length = min n 16; bytes = take (min n 16) bs ++ replicate (16 - min n 16) 0 }
 
--- where there is none
 abbrev pub noMessage : Message
 noMessage = message 0 (replicate 16 0)
 
@@ -29,3 +31,7 @@ destination bs = getD bs 0 0 % 16
 
 abbrev pub opcode : List ℕ → ℕ
 opcode bs = getD bs 1 0
+
+-- Feature Abort, of an opcode
+abbrev pub isFeatureAbort : ℕ → Bool
+isFeatureAbort code = eqb code CEC-MSG-FEATURE-ABORT

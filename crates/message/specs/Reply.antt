@@ -5,7 +5,8 @@ use mathlib.Core.Bool.{Bool, _&&_, _||_, not}
 use mathlib.Core.List.{List}
 use lib.Dec.{eqb, leb}
 use lib.ListN.{getD, length}
-use Rattle.constants.specs.Kernel.{CEC-MSG-FEATURE-ABORT, CEC-MSG-INITIATE-ARC, CEC-MSG-REPORT-ARC-INITIATED, CEC-MSG-REPORT-ARC-TERMINATED, CEC-LOG-ADDR-BROADCAST}
+use Rattle.constants.specs.Kernel.{CEC-MSG-INITIATE-ARC, CEC-MSG-REPORT-ARC-INITIATED, CEC-MSG-REPORT-ARC-TERMINATED, CEC-LOG-ADDR-BROADCAST}
+use Rattle.message.specs.Message.{isFeatureAbort}
 
 -- "a slice of length under 2 or over 16 is no match"
 abbrev pub hasOpcode : ℕ → Bool
@@ -20,12 +21,12 @@ abbrev pub toInitiator : ℕ → ℕ → Bool
 toInitiator sent came = eqb (came % 16) (sent / 16) || eqb (came % 16) CEC-LOG-ADDR-BROADCAST
 
 -- "opcode 0x00 with length 3 or more and third byte the sent opcode"
-abbrev pub isFeatureAbort : ℕ → ℕ → ℕ → ℕ → Bool
-isFeatureAbort sent came size third = eqb came CEC-MSG-FEATURE-ABORT && leb 3 size && eqb third sent
+abbrev pub abortsSent : ℕ → ℕ → ℕ → ℕ → Bool
+abortsSent sent came size third = isFeatureAbort came && leb 3 size && eqb third sent
 
 -- "a non-zero opcode equal to the wanted reply"
 abbrev pub isWanted : ℕ → ℕ → Bool
-isWanted came wanted = not (eqb came CEC-MSG-FEATURE-ABORT) && eqb came wanted
+isWanted came wanted = not (isFeatureAbort came) && eqb came wanted
 
 -- "If 0xC0 was sent and 0xC1 or 0xC2 wanted, either of those matches", of the opcodes
 abbrev pub isArcReport : ℕ → Bool
@@ -36,7 +37,7 @@ isArcPair sent came wanted = eqb sent CEC-MSG-INITIATE-ARC && isArcReport wanted
 
 -- the opcodes and operands match by one of the three rules
 abbrev pub isAnswer : ℕ → ℕ → ℕ → ℕ → ℕ → Bool
-isAnswer sent came size third wanted = isFeatureAbort sent came size third || isWanted came wanted || isArcPair sent came wanted
+isAnswer sent came size third wanted = abortsSent sent came size third || isWanted came wanted || isArcPair sent came wanted
 
 -- whether the bytes that came are the reply to the bytes that were sent
 unfoldable pub isReply : List ℕ → List ℕ → ℕ → Bool

@@ -1,6 +1,6 @@
 // A CEC message by value, and the reply test on messages and on byte slices.
 ghost use mathlib.Core.Path.{_≡_};
-ghost use Prim.Native.Nat.{_≤_, _/_, min};
+ghost use Prim.Native.Nat.{_≤_, _/_};
 ghost use lib.ListN.{getD};
 ghost use Rattle.message.specs.Message.{message, contents, sentLength, initiator, destination, opcode};
 
@@ -11,12 +11,6 @@ pub mod reply;
 pub struct Message {
     length: u8,
     bytes: [u8; 16],
-}
-
-fn at_most_16(length: u8) -> u8
-    ensures { λ r. ⌜ r ≡ min length 16 ⌝ }
-{
-    if length < 16 { length } else { 16 }
 }
 
 fn high_digit(byte: u8) -> u8
@@ -31,15 +25,15 @@ impl Message {
     pub fn new(length: u8, bytes: [u8; 16]) -> Message
         ensures { λ r. ⌜ r ≡ message length bytes ⌝ }
     {
-        let held = at_most_16(length);
+        let held = lists::at_most(length as usize, 16);
         let mut kept = bytes;
-        let mut i = held as usize;
+        let mut i = held;
         while i < 16 {
             kept[i] = 0;
             i += 1;
         }
         Message {
-            length: held,
+            length: held as u8,
             bytes: kept,
         }
     }
@@ -76,12 +70,10 @@ impl Message {
         self.bytes[1]
     }
 
-    // How many bytes are sent.
     fn sent_length(self) -> usize
         ensures { λ r. ⌜ r ≡ sentLength self ⌝ }
     {
-        let n = self.length as usize;
-        if n < 16 { n } else { 16 }
+        lists::at_most(self.length as usize, 16)
     }
 
     // The byte at a place, 0 past the length.

@@ -3,8 +3,8 @@ ghost use mathlib.Core.Path.{_≡_};
 ghost use lib.ListN.{getD};
 ghost use Rattle.message.specs.Message.{contents};
 ghost use Rattle.lists.specs.Tests.{bit};
-ghost use Rattle.message.specs.Head.{headOf, headsMatch};
-ghost use Rattle.message.specs.Reply.{hasOpcode, fromDestination, toInitiator, isFeatureAbort, isWanted, isArcReport, isArcPair, isAnswer, isReply};
+ghost use Rattle.message.specs.Prefix.{prefixOf, prefixesMatch};
+ghost use Rattle.message.specs.Reply.{hasOpcode, fromDestination, toInitiator, abortsSent, isWanted, isArcReport, isArcPair, isAnswer, isReply};
 use crate::Message;
 use constants::CEC_LOG_ADDR_BROADCAST;
 use constants::CEC_MSG_FEATURE_ABORT;
@@ -30,8 +30,8 @@ fn to_initiator(sent: u8, came: u8) -> bool
     (came % 16 == sent / 16) | (came % 16 == CEC_LOG_ADDR_BROADCAST)
 }
 
-fn is_feature_abort(sent: u8, came: u8, length: usize, third: u8) -> bool
-    ensures { λ r. ⌜ r ≡ isFeatureAbort sent came length third ⌝ }
+fn aborts_sent(sent: u8, came: u8, length: usize, third: u8) -> bool
+    ensures { λ r. ⌜ r ≡ abortsSent sent came length third ⌝ }
 {
     (came == CEC_MSG_FEATURE_ABORT) & (3 <= length) & (third == sent)
 }
@@ -57,7 +57,7 @@ fn is_arc_pair(sent: u8, came: u8, wanted: u8) -> bool
 fn is_answer(sent: u8, came: u8, length: usize, third: u8, wanted: u8) -> bool
     ensures { λ r. ⌜ r ≡ isAnswer sent came length third wanted ⌝ }
 {
-    is_feature_abort(sent, came, length, third)
+    aborts_sent(sent, came, length, third)
         | is_wanted(came, wanted)
         | is_arc_pair(sent, came, wanted)
 }
@@ -70,17 +70,17 @@ fn byte_at(s: &[u8], i: usize) -> u8
 }
 
 // What the test looks at: the length, and the first three bytes, 0 where there is none.
-struct Head {
+struct Prefix {
     length: usize,
     first: u8,
     second: u8,
     third: u8,
 }
 
-fn head_of(s: &[u8]) -> Head
-    ensures { λ r. ⌜ r ≡ headOf (now (s .entry)) ⌝ }
+fn prefix_of(s: &[u8]) -> Prefix
+    ensures { λ r. ⌜ r ≡ prefixOf (now (s .entry)) ⌝ }
 {
-    Head {
+    Prefix {
         length: s.len(),
         first: byte_at(s, 0),
         second: byte_at(s, 1),
@@ -88,8 +88,8 @@ fn head_of(s: &[u8]) -> Head
     }
 }
 
-fn heads_match(sent: Head, came: Head, wanted: u8) -> bool
-    ensures { λ r. ⌜ r ≡ headsMatch sent came wanted ⌝ }
+fn prefixes_match(sent: Prefix, came: Prefix, wanted: u8) -> bool
+    ensures { λ r. ⌜ r ≡ prefixesMatch sent came wanted ⌝ }
 {
     has_opcode(sent.length)
         & has_opcode(came.length)
@@ -99,10 +99,10 @@ fn heads_match(sent: Head, came: Head, wanted: u8) -> bool
 }
 
 impl Message {
-    fn head(self) -> Head
-        ensures { λ r. ⌜ r ≡ headOf (contents self) ⌝ }
+    fn prefix(self) -> Prefix
+        ensures { λ r. ⌜ r ≡ prefixOf (contents self) ⌝ }
     {
-        Head {
+        Prefix {
             length: self.sent_length(),
             first: self.sent_byte(0),
             second: self.sent_byte(1),
@@ -114,7 +114,7 @@ impl Message {
     pub fn is_reply(self, sent: Message, wanted: u8) -> bool
         ensures { λ r. ⌜ r ≡ isReply (contents sent) (contents self) wanted ⌝ }
     {
-        heads_match(sent.head(), self.head(), wanted)
+        prefixes_match(sent.prefix(), self.prefix(), wanted)
     }
 }
 
@@ -123,5 +123,5 @@ impl Message {
 pub extern "C" fn cec_reply_match(sent: &[u8], received: &[u8], wanted: u8) -> u8
     ensures { λ r. ⌜ r ≡ bit (isReply (now (sent .entry)) (now (received .entry)) wanted) ⌝ }
 {
-    heads_match(head_of(sent), head_of(received), wanted) as u8
+    prefixes_match(prefix_of(sent), prefix_of(received), wanted) as u8
 }

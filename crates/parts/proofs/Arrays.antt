@@ -1,51 +1,58 @@
--- The arrays of the inboxes: that they have 128 and 8 elements is part of what owning the value tells. What a store into them does to the inboxes.
+-- The arrays of the inboxes in the parts: their lengths, and what a call's store of an entry comes to.
 -- Assumes nothing.
-use Prim.Native.Nat.{ℕ, _+_, _*_, _≤_, _<_, min}
-use mathlib.Core.List.{List, []}
-use mathlib.Core.Path.{_≡_, sym, _∙_}
-use native.Mathlib.Omega.{arith}
-use lib.Dec.{ltb}
-use lib.ListN.{length, getD, set, List·getD-eq-default}
+use Prim.Native.Nat.{ℕ, _+_, _*_, min}
+use mathlib.Core.Bool.{true, false}
+use mathlib.Core.List.{List}
+use mathlib.Core.Path.{_≡_, ap}
+use lib.ListN.{getD, set}
 use denote.Laws.{Is}
 use mir.Val.{Val}
-use borrow.Author.Tests.{ltb-true, ltb-false}
 use Rattle.entry.specs.declared.Entry.{Entry}
-use Rattle.inbox.specs.Inboxes.{inboxOf, delivered, delivered-past, delivered-full, delivered-room}
-use Rattle.lists.specs.Blocks.{parts, length-part, length-parts, parts-put}
+use Rattle.inbox.proofs.Arrays.{Long, hasRoom, left-out, store-long, stored}
 use Rattle.lists.specs.Elements.{unmapped}
-use Rattle.lists.specs.Tests.{split}
 use Rattle.parts.proofs.Parts as the
+use Rattle.parts.specs.Parts.{stateOf}
 use Rattle.parts.specs.declared.Parts.{Parts}
+use Rattle.rules.specs.Deliver.{deliver}
+use Rattle.rules.specs.State.{withInboxes}
 
-pub entries-long : (p : Parts) (vs : List Val) → Is the.the-row p vs → length (p .entries) ≡ 128
-entries-long p vs q = unmapped _ (p .entries) 128 (q .1 .1 .0 .1 .0 .1)
+abbrev pub LongParts : Parts → Type 0
+LongParts p = Long (p .entries) (p .counts)
 
-pub counts-long : (p : Parts) (vs : List Val) → Is the.the-row p vs → length (p .counts) ≡ 8
-counts-long p vs q = unmapped _ (p .counts) 8 (q .1 .1 .1 .0 .1 .0 .1)
-
-module _ (cs : List ℕ) (l : List Entry) (eight : length cs ≡ 8) (long : length l ≡ 128) where
-  -- how many entries a handle has
-  pub counted : (h : ℕ) → min (getD cs h 0) 16 ≡ length (inboxOf (parts 16 cs l) h)
-  counted h =
-      split (ltb h 8)
-      (λ e. sym (length-part 16 cs l h (omega (arith, ltb-true h 8 e))))
-      (λ e. rw (List·getD-eq-default cs 0 {n = h} (omega (arith, ltb-false h 8 e)), List·getD-eq-default (parts 16 cs l) [] {n = h} (omega (arith, ltb-false h 8 e, length-parts 16 cs l))))
-
-  -- an entry stored after a handle's last one is delivered
-  pub stored : (h n : ℕ) (e : Entry) → h < 8 → getD cs h 0 ≡ n → n < 16 → parts 16 (set cs h (n + 1)) (set l (16 * h + n) e) ≡ delivered (parts 16 cs l) h e
-  stored h n e a q b =
-      let m = length-part 16 cs l h (omega arith) in
-      parts-put 16 cs l h n e q b (omega arith) ∙ delivered-room (parts 16 cs l) h e (omega arith)
-
-  -- where there is no room, or no such handle, nothing is
-  pub full-stays : (h : ℕ) (e : Entry) → h < 8 → 16 ≤ getD cs h 0 → parts 16 cs l ≡ delivered (parts 16 cs l) h e
-  full-stays h e a b =
-      let m = length-part 16 cs l h (omega arith) in
-      delivered-full (parts 16 cs l) h e (omega arith)
-
-  pub past-stays : (h : ℕ) (e : Entry) → 8 ≤ h → parts 16 cs l ≡ delivered (parts 16 cs l) h e
-  past-stays h e a = delivered-past (parts 16 cs l) h e (omega (arith, length-parts 16 cs l))
+-- owning the parts tells so
+pub parts-long : (p : Parts) (vs : List Val) → Is the.the-row p vs → LongParts p
+parts-long p vs q = record { entries = unmapped _ (p .entries) 128 (q .1 .1 .0 .1 .0 .1); counts = unmapped _ (p .counts) 8 (q .1 .1 .1 .0 .1 .0 .1) }
 
 -- the parts with other arrays of the inboxes
 abbrev pub withArrays : Parts → List Entry → List ℕ → Parts
-withArrays p l cs = record { entries = l; counts = cs; queue = p .queue; wire = p .wire; waits = p .waits; handles = p .handles; «can_transmit» = p .«can_transmit»; «can_monitor_all» = p .«can_monitor_all»; last = p .last; settings = p .settings; noted = p .noted }
+withArrays p es cs = record {
+  entries = es;
+  counts = cs;
+  queue = p .queue;
+  wire = p .wire;
+  waits = p .waits;
+  handles = p .handles;
+  «can_transmit» = p .«can_transmit»;
+  «can_monitor_all» = p .«can_monitor_all»;
+  last = p .last;
+  settings = p .settings;
+  noted = p .noted;
+}
+
+-- q is p with an entry delivered
+pub record Delivered (p : Parts) (h : ℕ) (e : Entry) (q : Parts) : Type 0 where
+  pub long : LongParts q
+  pub state : stateOf q ≡ deliver (stateOf p) h e
+
+-- the code's store, by its test of the n entries that the handle has
+module _ (p : Parts) (long : LongParts p) (h n : ℕ) (m : n ≡ min (getD (p .counts) h 0) 16) (e : Entry) (q : Parts) where
+  pub stores : (x : Entry) → hasRoom h n ≡ true → x ≡ e → q ≡ withArrays p (set (p .entries) (16 * h + n) x) (set (p .counts) h (n + 1)) → Delivered p h e q
+  stores x t s w =
+      rw (w, s)
+      (record {
+        long = store-long (p .entries) (p .counts) (16 * h + n) h (n + 1) e long;
+        state = ap (withInboxes (stateOf p)) (stored (p .entries) (p .counts) long h n e m t);
+      })
+
+  pub leaves : hasRoom h n ≡ false → q ≡ p → Delivered p h e q
+  leaves t w = rw w (record { long = long; state = ap (withInboxes (stateOf p)) (left-out (p .entries) (p .counts) long h n e m t) })

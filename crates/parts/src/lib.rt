@@ -1,7 +1,7 @@
 // The adapter's parts, and what each call asks of them.
-ghost use Prim.Native.Nat.{_≤_, min};
+ghost use Prim.Native.Nat.{_≤_};
 ghost use mathlib.Core.Path.{_≡_};
-ghost use lib.ListN.{getD, length};
+ghost use lib.ListN.{length};
 ghost use Rattle.inbox.specs.Inboxes.{inboxesOf, inboxOf};
 ghost use Rattle.rules.specs.Call.{check};
 ghost use Rattle.rules.specs.Handles.{handleAt, isOpen, isConfigured, isOwn};
@@ -13,6 +13,7 @@ use entry::Entry;
 use handle::Handle;
 use handles::Handles;
 use inbox::Inboxes;
+use inbox::count_at;
 use queue::Queue;
 use settings::Settings;
 use waits::Waits;
@@ -41,11 +42,11 @@ pub struct Done {
     pub errno: u32,
 }
 
-// One check of several, in their order: its number if the test holds, else what the later ones say.
-pub fn check(test: bool, errno: u32, later: u32) -> u32
-    ensures { λ r. ⌜ r ≡ check test errno later ⌝ }
+// One check of several, in their order: its number, or what the later ones say.
+pub fn check(refused: bool, errno: u32, later: u32) -> u32
+    ensures { λ r. ⌜ r ≡ check refused errno later ⌝ }
 {
-    if test { errno } else { later }
+    if refused { errno } else { later }
 }
 
 // The settings as unconfigure leaves them.
@@ -63,28 +64,13 @@ pub fn no_settings() -> Settings
     }
 }
 
-// The noted addresses, cleared.
 pub fn none_noted() -> [u16; 15]
     ensures { λ r. ⌜ r ≡ noneNoted ⌝ }
 {
     [CEC_PHYS_ADDR_INVALID; 15]
 }
 
-// How many entries a handle has, by the counts; none for a number over 7, and a count past 16 counts as 16.
-pub fn count_at(counts: [usize; 8], handle: u8) -> usize
-    ensures { λ r. ⌜ r ≡ min (getD counts handle 0) 16 ⌝ }
-    ensures { λ r. ⌜ r ≤ 16 ⌝ }
-{
-    let h = handle as usize;
-    if 8 <= h {
-        return 0;
-    }
-    let n = counts[h];
-    if n < 16 { n } else { 16 }
-}
-
 impl Parts {
-    // A fresh adapter, for any capabilities.
     pub fn fresh(can_transmit: bool, can_monitor_all: bool) -> Parts
         ensures { λ r. ⌜ stateOf r ≡ fresh (record { transmit = «can_transmit»; monitorAll = «can_monitor_all» }) ⌝ }
     {
@@ -127,7 +113,7 @@ impl Parts {
         count_at(counts, handle)
     }
 
-    // The inboxes by themselves.
+    // For a call of several steps that works on the inboxes alone: the steps pass less by value.
     pub fn inboxes(self) -> Inboxes
         ensures { λ r. ⌜ r ≡ boxesOf self ⌝ }
     {
@@ -139,7 +125,6 @@ impl Parts {
         }
     }
 
-    // With other inboxes.
     pub fn with_inboxes(mut self, inboxes: Inboxes) -> Parts
         ensures { λ r. ⌜ stateOf r ≡ withInboxes (stateOf self) (inboxesOf inboxes) ⌝ }
     {
@@ -156,7 +141,7 @@ impl Parts {
         self.settings.physical_address != CEC_PHYS_ADDR_INVALID
     }
 
-    // Whether a logical address is an own one.
+    // No device has address 15, and past it the mask has no bit.
     pub fn is_own(self, address: u8) -> bool
         ensures { λ r. ⌜ r ≡ isOwn (stateOf self) address ⌝ }
     {

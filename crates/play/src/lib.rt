@@ -2,15 +2,15 @@
 ghost use mathlib.Core.List.{[], _∷_};
 ghost use mathlib.Core.Path.{_≡_};
 ghost use Rattle.adapter.specs.Adapter.{stateOf};
-ghost use Rattle.log.specs.Record.{byteAt, numberAt, openOf, modeOf, transmitOf, resultOf, messageOf, configureOf};
+ghost use Rattle.log.specs.Record.{byteAt, numberAt, openOf, modeOf, transmitOf, resultOf, incomingOf, configureOf};
 ghost use Rattle.play.specs.Play.{playedOf, effect};
 ghost use Rattle.rules.specs.Call.{callClose, callReceive, callBusStart, callTime, callUnconfigure};
 ghost use Rattle.text.specs.Line.{saidOf};
 use adapter::Adapter;
 use adapter::Done;
 use entry::Entry;
-use fields::bytes_at_2;
 use fields::counts_of;
+use fields::message_bytes;
 use fields::number_4;
 use fields::request_of;
 use fields::settings_of;
@@ -76,7 +76,7 @@ pub fn close(adapter: Adapter, r: [u8; 28]) -> Played
 pub fn mode(adapter: Adapter, r: [u8; 28]) -> Played
     ensures { λ p. ⌜ playedOf p ≡ effect (stateOf adapter) (modeOf r) ⌝ }
 {
-    of_done(adapter.mode(r[1], number_4(r[2], r[3], r[4], r[5])))
+    of_done(adapter.set_mode(r[1], number_4(r[2], r[3], r[4], r[5])))
 }
 
 pub fn transmit(adapter: Adapter, r: [u8; 28]) -> Played
@@ -127,13 +127,13 @@ pub fn result(adapter: Adapter, r: [u8; 28]) -> Played
 pub fn time(adapter: Adapter, r: [u8; 28]) -> Played
     ensures { λ p. ⌜ playedOf p ≡ effect (stateOf adapter) (callTime (numberAt r 1 4)) ⌝ }
 {
-    of_done(adapter.time(number_4(r[1], r[2], r[3], r[4])))
+    of_done(adapter.time_passed(number_4(r[1], r[2], r[3], r[4])))
 }
 
 pub fn message(adapter: Adapter, r: [u8; 28]) -> Played
-    ensures { λ p. ⌜ playedOf p ≡ effect (stateOf adapter) (messageOf r) ⌝ }
+    ensures { λ p. ⌜ playedOf p ≡ effect (stateOf adapter) (incomingOf r) ⌝ }
 {
-    of_done(adapter.message(r[1], bytes_at_2(r)))
+    of_done(adapter.received(r[1], message_bytes(r)))
 }
 
 pub fn configure(adapter: Adapter, r: [u8; 28]) -> Played

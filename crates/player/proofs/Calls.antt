@@ -1,6 +1,6 @@
 -- A turn of the player: what it does with the bytes that it has gathered is what the session does.
 -- Assumes nothing.
-use Prim.Native.Nat.{ℕ, zero, suc, _+_, _≤_}
+use Prim.Native.Nat.{ℕ, suc, _+_, _≤_, min}
 use mathlib.Core.Bool.{Bool, true, false, cond, _&&_, not}
 use mathlib.Core.List.{List, []}
 use mathlib.Core.Logic.{_≢_}
@@ -8,7 +8,6 @@ use mathlib.Core.Path.{_≡_, refl, sym, ap, _∙_}
 use native.Mathlib.Omega.{arith}
 use lib.Dec.{eqb, ltb, leb}
 use lib.ListN.{length, take, length-take}
-use lib.Seq.{length-take-le, take-all}
 use borrow.Author.Tests.{ne-eqb, le-leb, lt-leb, ltb-true, ltb-false, leb-true}
 use Rattle.adapter.specs.Adapter.{stateOf}
 use Rattle.lists.specs.Tests.{split, clash, both}
@@ -18,7 +17,7 @@ use Rattle.log.specs.Gather.{turn}
 use Rattle.log.specs.Record.{isKind, bodyLength, kindOf, callOf}
 use Rattle.log.specs.Session.{Printed, bad, grown, played, isWhole, placeAfter}
 use Rattle.log.specs.Text.{lineOf, badLine}
-use Rattle.cursor.specs.Cursor.{atMost28, isBad, isFull, nextCursor, callNumber}
+use Rattle.cursor.specs.Cursor.{atMost28, isBad, isComplete, nextCursor, callNumber}
 use Rattle.play.specs.Play.{Effect, playedOf, effect}
 use Rattle.player.specs.Player.{sessionWith, shown}
 use Rattle.cursor.specs.declared.Cursor.{Cursor}
@@ -52,7 +51,7 @@ some-call k z = split (isKind k)
     (λ e. let y : 11 ≡ 0 = rw e at z in omega arith)
 
 -- a record that the code has is whole where the session says so
-whole-full : (r : List ℕ) (count : ℕ) → length r ≡ 28 → 1 ≤ count → isWhole (take count r) ≡ isFull (kindOf r) count
+whole-full : (r : List ℕ) (count : ℕ) → length r ≡ 28 → 1 ≤ count → isWhole (take count r) ≡ isComplete (kindOf r) count
 whole-full r count e h =
     let k : kindOf (take count r) ≡ kindOf r = kind-held r count h in
     let b = body-most (kindOf r) in
@@ -62,9 +61,7 @@ whole-full r count e h =
     (λ t. rw (t, k) (lt-leb (1 + bodyLength (kindOf r)) (length (take count r)) (omega (arith, ltb-false))))
 
 taken-28 : (r : List ℕ) (count : ℕ) → length r ≡ 28 → length (take count r) ≡ atMost28 count
-taken-28 r count e = split (ltb count 28)
-    (λ t. rw t (length-take-le count r (omega (arith, ltb-true count 28 t))))
-    (λ t. rw (t, take-all count r (omega (arith, ltb-false count 28 t))) e)
+taken-28 r count e = length-take count r ∙ ap (min count) e
 
 -- the session after a turn, and what it prints
 abbrev pub turned : List ℕ → Cursor → ℕ → Played → Printed
@@ -76,35 +73,35 @@ abbrev after : State → List ℕ → ℕ → Bool → List ℕ → Printed
 after s held place ended text = record { session = record { state = s; held = held; place = place; ended = ended }; text = text }
 
 module _ (s : State) (bytes r : List ℕ) (c : Cursor) (count : ℕ) (p : Played) (e : length bytes ≡ 28) (f : length r ≡ 28) (h : 1 ≤ count) where
-  test : (eqb (length (take (c .count) bytes)) 0 && not (isKind (kindOf (take count r)))) ≡ isBad c (kindOf r)
-  test = rw (none-held bytes (c .count) e, kind-held r count h)
+  bad-same : (eqb (length (take (c .count) bytes)) 0 && not (isKind (kindOf (take count r)))) ≡ isBad c (kindOf r)
+  bad-same = rw (none-held bytes (c .count) e, kind-held r count h)
 
   turn-bad : isBad c (kindOf r) ≡ true → turn (sessionWith s bytes c) (take count r) ≡ after s [] (c .place) true (badLine (c .place))
   unfolding turn bad
-  turn-bad t = ap (λ (b : Bool). cond b (bad (sessionWith s bytes c)) (grown (sessionWith s bytes c) (take count r))) (test ∙ t)
+  turn-bad t = ap (λ (b : Bool). cond b (bad (sessionWith s bytes c)) (grown (sessionWith s bytes c) (take count r))) (bad-same ∙ t)
 
   turned-bad : isBad c (kindOf r) ≡ true → turned r c count p ≡ after (stateOf (p .adapter)) [] (c .place) true (badLine (c .place))
   unfolding nextCursor callNumber
   turned-bad t = rw t
 
-  turn-full : isBad c (kindOf r) ≡ false → isFull (kindOf r) count ≡ true → turn (sessionWith s bytes c) (take count r) ≡ played (sessionWith s bytes c) (take count r)
+  turn-full : isBad c (kindOf r) ≡ false → isComplete (kindOf r) count ≡ true → turn (sessionWith s bytes c) (take count r) ≡ played (sessionWith s bytes c) (take count r)
   unfolding turn grown
   turn-full t u =
-      ap (λ (b : Bool). cond b (bad (sessionWith s bytes c)) (grown (sessionWith s bytes c) (take count r))) (test ∙ t)
+      ap (λ (b : Bool). cond b (bad (sessionWith s bytes c)) (grown (sessionWith s bytes c) (take count r))) (bad-same ∙ t)
       ∙ ap (λ (b : Bool). cond b (played (sessionWith s bytes c) (take count r)) (after s (take count r) (c .place) false [])) (whole-full r count f h ∙ u)
 
-  turn-part : isBad c (kindOf r) ≡ false → isFull (kindOf r) count ≡ false → turn (sessionWith s bytes c) (take count r) ≡ after s (take count r) (c .place) false []
+  turn-part : isBad c (kindOf r) ≡ false → isComplete (kindOf r) count ≡ false → turn (sessionWith s bytes c) (take count r) ≡ after s (take count r) (c .place) false []
   unfolding turn grown
   turn-part t u =
-      ap (λ (b : Bool). cond b (bad (sessionWith s bytes c)) (grown (sessionWith s bytes c) (take count r))) (test ∙ t)
+      ap (λ (b : Bool). cond b (bad (sessionWith s bytes c)) (grown (sessionWith s bytes c) (take count r))) (bad-same ∙ t)
       ∙ ap (λ (b : Bool). cond b (played (sessionWith s bytes c) (take count r)) (after s (take count r) (c .place) false [])) (whole-full r count f h ∙ u)
 
-  turned-full : isBad c (kindOf r) ≡ false → isFull (kindOf r) count ≡ true
+  turned-full : isBad c (kindOf r) ≡ false → isComplete (kindOf r) count ≡ true
       → turned r c count p ≡ after (stateOf (p .adapter)) [] (placeAfter (c .place) (atMost28 count)) false (lineOf (kindOf r) (saidOf (p .said)))
   unfolding nextCursor callNumber
   turned-full t u = rw (t, u, ne-eqb (cond (isKind (kindOf r)) (kindOf r) 11) 0 (some-call (kindOf r)))
 
-  turned-part : isBad c (kindOf r) ≡ false → isFull (kindOf r) count ≡ false → turned r c count p ≡ after (stateOf (p .adapter)) (take count r) (c .place) false []
+  turned-part : isBad c (kindOf r) ≡ false → isComplete (kindOf r) count ≡ false → turned r c count p ≡ after (stateOf (p .adapter)) (take count r) (c .place) false []
   unfolding nextCursor callNumber
   turned-part t u = rw (t, u)
 
@@ -112,15 +109,15 @@ module _ (s : State) (bytes r : List ℕ) (c : Cursor) (count : ℕ) (p : Played
   unfolding callNumber
   called-none t = rw t
 
-  called-part : isBad c (kindOf r) ≡ false → isFull (kindOf r) count ≡ false → callNumber c (kindOf r) count ≡ 0
+  called-part : isBad c (kindOf r) ≡ false → isComplete (kindOf r) count ≡ false → callNumber c (kindOf r) count ≡ 0
   unfolding callNumber
   called-part t u = rw (t, u)
 
-  called-full : isBad c (kindOf r) ≡ false → isFull (kindOf r) count ≡ true → callNumber c (kindOf r) count ≡ cond (isKind (kindOf r)) (kindOf r) 11
+  called-full : isBad c (kindOf r) ≡ false → isComplete (kindOf r) count ≡ true → callNumber c (kindOf r) count ≡ cond (isKind (kindOf r)) (kindOf r) 11
   unfolding callNumber
   called-full t u = rw (t, u)
 
-  full-played : isFull (kindOf r) count ≡ true → playedOf p ≡ effect s (callOf r)
+  full-played : isComplete (kindOf r) count ≡ true → playedOf p ≡ effect s (callOf r)
       → played (sessionWith s bytes c) (take count r) ≡ after (stateOf (p .adapter)) [] (placeAfter (c .place) (atMost28 count)) false (lineOf (kindOf r) (saidOf (p .said)))
   unfolding played
   full-played u q =
@@ -133,7 +130,7 @@ module _ (s : State) (bytes r : List ℕ) (c : Cursor) (count : ℕ) (p : Played
   pub turn-is : Follows s r (callNumber c (kindOf r) count) p → turn (sessionWith s bytes c) (take count r) ≡ turned r c count p
   turn-is w = split (isBad c (kindOf r))
       (λ t. turn-bad t ∙ sym (ap (λ (x : State). after x [] (c .place) true (badLine (c .place))) (w .none (called-none t))) ∙ sym (turned-bad t))
-      (λ t. split (isFull (kindOf r) count)
+      (λ t. split (isComplete (kindOf r) count)
       (λ u. let n = called-full t u in
       let m : callNumber c (kindOf r) count ≢ 0 = λ z. some-call (kindOf r) (sym n ∙ z) in
       turn-full t u ∙ full-played u (w .some m ∙ ap (λ (k : ℕ). effect s (callBy k r)) n ∙ ap (effect s) (called r)) ∙ sym (turned-full t u))
@@ -153,17 +150,13 @@ follows-none a r n p e q = record {
 }
 
 -- the number of no call
+fewer : (n k : ℕ) → n ≤ suc k → n ≢ suc k → n ≤ k
+fewer n k h d = omega arith
+
+none : (n : ℕ) → n ≤ 0 → n ≡ 0
+none n h = omega arith
+
 pub no-call : (n : ℕ) → n ≤ 11 → n ≢ 1 → n ≢ 2 → n ≢ 3 → n ≢ 4 → n ≢ 5 → n ≢ 6 → n ≢ 7 → n ≢ 8 → n ≢ 9 → n ≢ 10 → n ≢ 11 → n ≡ 0
-no-call zero h n1 n2 n3 n4 n5 n6 n7 n8 n9 n10 n11 = refl
-no-call (suc zero) h n1 n2 n3 n4 n5 n6 n7 n8 n9 n10 n11 = absurd (n1 refl)
-no-call (suc (suc zero)) h n1 n2 n3 n4 n5 n6 n7 n8 n9 n10 n11 = absurd (n2 refl)
-no-call (suc (suc (suc zero))) h n1 n2 n3 n4 n5 n6 n7 n8 n9 n10 n11 = absurd (n3 refl)
-no-call (suc (suc (suc (suc zero)))) h n1 n2 n3 n4 n5 n6 n7 n8 n9 n10 n11 = absurd (n4 refl)
-no-call (suc (suc (suc (suc (suc zero))))) h n1 n2 n3 n4 n5 n6 n7 n8 n9 n10 n11 = absurd (n5 refl)
-no-call (suc (suc (suc (suc (suc (suc zero)))))) h n1 n2 n3 n4 n5 n6 n7 n8 n9 n10 n11 = absurd (n6 refl)
-no-call (suc (suc (suc (suc (suc (suc (suc zero))))))) h n1 n2 n3 n4 n5 n6 n7 n8 n9 n10 n11 = absurd (n7 refl)
-no-call (suc (suc (suc (suc (suc (suc (suc (suc zero)))))))) h n1 n2 n3 n4 n5 n6 n7 n8 n9 n10 n11 = absurd (n8 refl)
-no-call (suc (suc (suc (suc (suc (suc (suc (suc (suc zero))))))))) h n1 n2 n3 n4 n5 n6 n7 n8 n9 n10 n11 = absurd (n9 refl)
-no-call (suc (suc (suc (suc (suc (suc (suc (suc (suc (suc zero)))))))))) h n1 n2 n3 n4 n5 n6 n7 n8 n9 n10 n11 = absurd (n10 refl)
-no-call (suc (suc (suc (suc (suc (suc (suc (suc (suc (suc (suc zero))))))))))) h n1 n2 n3 n4 n5 n6 n7 n8 n9 n10 n11 = absurd (n11 refl)
-no-call (suc (suc (suc (suc (suc (suc (suc (suc (suc (suc (suc (suc k)))))))))))) h n1 n2 n3 n4 n5 n6 n7 n8 n9 n10 n11 = absurd (omega arith)
+no-call n h n1 n2 n3 n4 n5 n6 n7 n8 n9 n10 n11 =
+    let six : n ≤ 6 = fewer n 6 (fewer n 7 (fewer n 8 (fewer n 9 (fewer n 10 h n11) n10) n9) n8) n7 in
+    none n (fewer n 0 (fewer n 1 (fewer n 2 (fewer n 3 (fewer n 4 (fewer n 5 six n6) n5) n4) n3) n2) n1)

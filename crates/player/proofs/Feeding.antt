@@ -6,8 +6,8 @@ use mathlib.Core.List.{List, [], _∷_, _++_, append-assoc, append-nil}
 use mathlib.Core.Path.{_≡_, refl, sym, ap, _∙_}
 use native.Mathlib.Nat.{add-zero, zero-add, sub-zero, add-assoc, sub-add-eq}
 use native.Mathlib.Omega.{arith}
-use lib.ListN.{length, take, drop, length-drop, length-append, take-append-drop, drop-of-length-le}
-use lib.Seq.{drop-drop, length-take-le, take-at, drop-at, take-all}
+use lib.ListN.{length, take, drop, length-drop, take-append-drop, drop-of-length-le}
+use lib.Seq.{drop-drop, length-take-le, take-all}
 use borrow.Author.Tests.{lt-ltb, le-ltb}
 use Rattle.lists.specs.Tests.{or-true, split}
 use Rattle.lists.specs.Vector.{put}
@@ -15,7 +15,8 @@ use Rattle.log.proofs.Gather.{taken-turn}
 use Rattle.log.specs.Gather.{gather, gathered, turn}
 use Rattle.log.specs.Session.{Session, Printed, Taken, taken, isWhole}
 use Rattle.player.specs.Player.{givenBy}
-use Rattle.player.proofs.Printing.{PutAt, put-long}
+use Rattle.text.proofs.Puts.{put-long, split-at}
+use Rattle.text.specs.Line.{PutAt}
 
 -- some bytes taken and some text printed, and then the rest
 abbrev pub resumed : List ℕ → ℕ → Taken → Taken
@@ -56,14 +57,6 @@ idle-ended s (b ∷ bs) room h = rw h
 pub idle-done : (s : Session) (portion : List ℕ) (n room : ℕ) → length portion ≤ n → taken s (drop n portion) room ≡ idle s
 idle-done s portion n room h = let d : drop n portion ≡ [] = drop-of-length-le portion h in ap (λ (l : List ℕ). taken s l room) d
 
--- the text of a turn at the end of the buffer's text
-put-text : (out : List ℕ) (w : ℕ) (text : List ℕ) (w′ : ℕ) (out′ : List ℕ) → w + 29 ≤ length out → PutAt out w text w′ out′
-    → (take w′ out′ ≡ take w out ++ text) × (drop w′ out′ ≡ drop w′ out)
-put-text out w text w′ out′ h p =
-    let l : length (take w out ++ text) ≡ w′ = length-append (take w out) text ∙ omega (arith, length-take-le w out (omega arith), p .0) in
-    let o : out′ ≡ (take w out ++ text) ++ drop w′ out = p .1 .1 ∙ sym (append-assoc (take w out) text (drop w′ out)) in
-    (rw o (take-at (take w out ++ text) (drop w′ out) w′ l), rw o (drop-at (take w out ++ text) (drop w′ out) w′ l))
-
 -- taken one after the other
 resume : (text more : List ℕ) (n k : ℕ) (t : Taken) → resumed text n (resumed more k t) ≡ resumed (text ++ more) (n + k) t
 resume text more n k t =
@@ -78,15 +71,14 @@ module _ (s₀ : Session) (portion out₀ : List ℕ) (s : Session) (n w : ℕ) 
   next q k w′ out′ h e r t g b p =
       let l : length (drop n portion) ≡ length portion - n = length-drop n portion in
       let o = f .long in
-      let i : w + 29 ≤ length out = omega arith in
-      let x = put-text out w (q .text) w′ out′ i p in
-      let v : length out₀ - w′ ≡ length out₀ - w - length (q .text) = rw (p .0) (sub-add-eq (length out₀) w (length (q .text))) in
+      let x = split-at p in
+      let v : length out₀ - w′ ≡ length out₀ - w - length (q .text) = rw (p .place) (sub-add-eq (length out₀) w (length (q .text))) in
       let d : drop k (drop n portion) ≡ drop (n + k) portion = drop-drop k n portion in
-      let m : w + (w′ - w) ≡ w′ = omega (arith, p .0) in
+      let m : w + (w′ - w) ≡ w′ = omega (arith, p .place) in
       record {
         within = omega arith;
-        room = omega (arith, p .1 .0);
-        long = put-long out w (q .text) w′ out′ i p ∙ o;
+        room = omega (arith, p .room);
+        long = put-long p ∙ o;
         rest = x .1 ∙ rw (← m, ← drop-drop (w′ - w) w out, ← drop-drop (w′ - w) w out₀, f .rest);
         all = f .all
             ∙ ap (resumed (take w out) n) (taken-turn s (drop n portion) (length out₀ - w) e (omega arith) (le-ltb (length out₀ - w) 29 (omega arith)) ∙ rw (t, g))

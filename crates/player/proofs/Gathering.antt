@@ -1,102 +1,80 @@
--- The loop that gathers a record: what it has gathered after n bytes of a portion, how that begins, goes on and ends.
+-- The copy that gathers a record: how many bytes of a portion it takes, and the record that it gives.
 -- Assumes nothing.
-use Prim.Native.Nat.{ℕ, zero, suc, _+_, _≤_, _<_}
-use mathlib.Core.Bool.{Bool, true, false, cond, not}
-use mathlib.Core.List.{List, [], _∷_}
-use mathlib.Core.Path.{_≡_, refl, sym, ap, _∙_}
-use native.Mathlib.Nat.{add-zero}
-use native.Mathlib.Numerals.{add-one}
+use Prim.Native.Nat.{ℕ, suc, _+_, _-_, _≤_, _<_, min}
+use mathlib.Core.Bool.{true, false}
+use mathlib.Core.List.{List, [], _∷_, _++_, append-nil}
+use mathlib.Core.Path.{_≡_, refl, sym, ap, ap₂, _∙_}
 use native.Mathlib.Omega.{arith}
 use lib.Dec.{ltb}
-use lib.ListN.{length, getD, take, drop, set, length-take, drop-of-length-le}
-use lib.Seq.{drop-cons, getD-take, take-all}
-use borrow.Author.Tests.{lt-leb, le-leb, ltb-true, ltb-false}
+use lib.ListN.{length, getD, take, length-take, length-append, List·getD-append}
+use lib.Seq.{append-snoc, getD-take, length-take-le, paste, take-paste, take-all}
+use borrow.Author.Tests.{lt-ltb, le-ltb, lt-leb, le-leb, ltb-true, ltb-false}
+use Rattle.lists.specs.Elements.{take-taken}
 use Rattle.lists.specs.Tests.{split}
-use Rattle.lists.specs.Vector.{put, put-room, put-full}
+use Rattle.lists.specs.Vector.{put}
+use Rattle.log.proofs.Whole.{body-most}
 use Rattle.log.specs.Gather.{gather, gathered}
 use Rattle.log.specs.Record.{bodyLength, kindOf}
 use Rattle.log.specs.Session.{isWhole}
 use Rattle.cursor.specs.Cursor.{atMost28}
 
-flip : {A : Type 0} (b : Bool) (x y : A) → cond (not b) x y ≡ cond b y x
-flip true x y = refl
-flip false x y = refl
-
-one-more : (b : Bool) (n m : ℕ) → n + cond (not b) 1 (suc m) ≡ (n + 1) + cond b m 0
-one-more true n m = omega arith
-one-more false n m = omega arith
-
-pub record Gathering (held portion : List ℕ) (count n : ℕ) (bytes : List ℕ) (lacks : Bool) : Type 0 where
-  pub within : n ≤ length portion
-  pub long : length bytes ≡ 28
-  pub most : count + n ≤ 29
-  pub room : lacks ≡ true → count + n ≤ 28
-  pub record-is : gather held portion ≡ cond lacks (gather (take (count + n) bytes) (drop n portion)) (take (count + n) bytes)
-  pub count-is : gathered held portion ≡ n + cond lacks (gathered (take (count + n) bytes) (drop n portion)) 0
-
 pub take-28 : (n : ℕ) (l : List ℕ) → length l ≡ 28 → take (atMost28 n) l ≡ take n l
 take-28 n l e = split (ltb n 28)
-    (λ p. rw p)
-    (λ p. rw (p, take-all 28 l (omega arith), take-all n l (omega (arith, ltb-false n 28 p))))
+    (λ p. let m : min n 28 ≡ n = omega (arith, ltb-true n 28 p) in rw m)
+    (λ p. let m : min n 28 ≡ 28 = omega (arith, ltb-false n 28 p) in rw (m, take-all 28 l (omega arith), take-all n l (omega (arith, ltb-false n 28 p))))
 
-pub start : (bytes portion : List ℕ) (count : ℕ) → length bytes ≡ 28 → count ≤ 28 → Gathering (take count bytes) portion count 0 bytes true
-start bytes portion count e h =
-    let t : take count bytes ≡ take (count + 0) bytes = rw (add-zero count) in
-    record {
-      within = omega arith;
-      long = e;
-      most = omega arith;
-      room = λ _. omega arith;
-      record-is = ap (λ (l : List ℕ). gather l portion) t;
-      count-is = ap (λ (l : List ℕ). gathered l portion) t ∙ omega arith;
-    }
+-- how many bytes the record lacks that has begun with h and goes on with bs; one at least
+abbrev lacks : List ℕ → List ℕ → ℕ
+lacks h bs = suc (bodyLength (kindOf (h ++ bs)) - length h)
 
--- a byte more in the record, where there is room for it, and where there is none
-pub stored : (bytes : List ℕ) (count n b : ℕ) → length bytes ≡ 28 → count + n < 28
-    → take (count + (n + 1)) (set bytes (count + n) b) ≡ put 28 (take (count + n) bytes) b
-stored bytes count n b e h = let a : count + (n + 1) ≡ (count + n) + 1 = omega arith in rw a (put-room 28 (count + n) bytes b e h)
+same-kind : (h : List ℕ) (b : ℕ) (bs : List ℕ) → kindOf (h ++ (b ∷ [])) ≡ kindOf (h ++ (b ∷ bs))
+same-kind [] b bs = refl
+same-kind (x ∷ h) b bs = refl
 
-pub not-stored : (bytes : List ℕ) (count n b : ℕ) → length bytes ≡ 28 → 28 ≤ count + n
-    → take (count + (n + 1)) bytes ≡ put 28 (take (count + n) bytes) b
-not-stored bytes count n b e h =
-    take-all (count + (n + 1)) bytes (omega arith) ∙ sym (take-all (count + n) bytes (omega arith)) ∙ put-full 28 (count + n) bytes b e h
+-- with room for a byte, all that the record lacks is gathered
+gather-is : (h bs : List ℕ) → length h < 28 → (gather h bs ≡ h ++ take (lacks h bs) bs) × (gathered h bs ≡ length (take (lacks h bs) bs))
+gather-is h [] l = (sym (append-nil h), refl)
+gather-is h (b ∷ bs) l =
+    let body = bodyLength (kindOf (h ++ (b ∷ bs))) in
+    let p : put 28 h b ≡ h ++ (b ∷ []) = rw (lt-ltb (length h) 28 l) in
+    let n = length-append h (b ∷ []) in
+    let m = body-most (kindOf (h ++ (b ∷ bs))) in
+    let i = gather-is (h ++ (b ∷ [])) bs in
+    split (ltb (length h) body)
+    (λ t. let s = ltb-true (length h) body t in
+    let w : isWhole (h ++ (b ∷ [])) ≡ false = rw (same-kind h b bs) (lt-leb (1 + body) (length (h ++ (b ∷ []))) (omega arith)) in
+    let d : lacks (h ++ (b ∷ [])) bs ≡ body - length h = rw (append-snoc h b bs) (omega arith) in
+    let j = i (omega arith) in
+    rw (p, w) (j .0 ∙ ap (λ (k : ℕ). (h ++ (b ∷ [])) ++ take k bs) d ∙ append-snoc h b (take (body - length h) bs), ap suc (j .1 ∙ ap (λ (k : ℕ). length (take k bs)) d)))
+    (λ t. let s = ltb-false (length h) body t in
+    let w : isWhole (h ++ (b ∷ [])) ≡ true = rw (same-kind h b bs) (le-leb (1 + body) (length (h ++ (b ∷ []))) (omega arith)) in
+    let d : body - length h ≡ 0 = omega arith in
+    rw (p, w, d) (refl, refl))
 
--- a byte that is not the first leaves the kind
-pub first-kept : (bytes : List ℕ) (at b : ℕ) → 0 < at → getD (set bytes at b) 0 0 ≡ getD bytes 0 0
-first-kept bytes zero b h = absurd (omega arith)
-first-kept [] (suc at) b h = refl
-first-kept (x ∷ bytes) (suc at) b h = refl
+-- a full record takes a byte and stays
+pub gather-full : (h bs : List ℕ) → length h ≡ 28 → 1 ≤ length bs → (gather h bs ≡ h) × (gathered h bs ≡ 1)
+gather-full h [] e l = absurd (omega arith)
+gather-full h (b ∷ bs) e l =
+    let p : put 28 h b ≡ h = rw (le-ltb (length h) 28 (omega arith)) in
+    let w : isWhole h ≡ true = le-leb (1 + bodyLength (kindOf h)) (length h) (omega (arith, body-most (kindOf h))) in
+    rw (p, w) (refl, refl)
 
--- the record with that byte is whole unless it lacks some
-whole-test : (bytes : List ℕ) (m : ℕ) → length bytes ≡ 28 → bodyLength (getD bytes 0 0) ≤ 27 → m ≤ 28
-    → isWhole (take (m + 1) bytes) ≡ not (ltb m (bodyLength (getD bytes 0 0)))
-whole-test bytes m e b h =
-    let k : kindOf (take (m + 1) bytes) ≡ getD bytes 0 0 = getD-take (m + 1) bytes 0 0 (omega arith) in
-    let l = length-take (m + 1) bytes in
-    split (ltb m (bodyLength (getD bytes 0 0)))
-    (λ t. rw (t, k) (lt-leb (1 + bodyLength (getD bytes 0 0)) (length (take (m + 1) bytes)) (omega (arith, ltb-true))))
-    (λ t. rw (t, k) (le-leb (1 + bodyLength (getD bytes 0 0)) (length (take (m + 1) bytes)) (omega (arith, ltb-false))))
+-- the kind is the first byte that has come, or else that comes
+pub kind-new : (bytes portion : List ℕ) (count : ℕ) → count ≡ 0 → getD portion 0 0 ≡ kindOf (take count bytes ++ portion)
+kind-new bytes portion count e = rw e
 
-pub next : (held portion bytes bytes′ : List ℕ) (count n b : ℕ) → Gathering held portion count n bytes true → n < length portion → b ≡ getD portion n 0
-    → length bytes′ ≡ 28 → bodyLength (getD bytes′ 0 0) ≤ 27 → take (count + (n + 1)) bytes′ ≡ put 28 (take (count + n) bytes) b
-    → Gathering held portion count (n + 1) bytes′ (ltb (count + n) (bodyLength (getD bytes′ 0 0)))
-next held portion bytes bytes′ count n b g h q e l t =
-    let a : (count + n) + 1 ≡ count + (n + 1) = omega arith in
-    let r : count + n ≤ 28 = g .room refl in
-    let d : drop n portion ≡ b ∷ drop (n + 1) portion = rw (add-one n, q) (drop-cons portion n 0 h) in
-    let w : isWhole (put 28 (take (count + n) bytes) b) ≡ not (ltb (count + n) (bodyLength (getD bytes′ 0 0))) = rw (← t, ← a) (whole-test bytes′ (count + n) e l r) in
-    record {
-      within = omega arith;
-      long = e;
-      most = omega arith;
-      room = λ z. omega (arith, ltb-true (count + n) (bodyLength (getD bytes′ 0 0)) z);
-      record-is = g .record-is ∙ rw (d, w, t) (flip (ltb (count + n) (bodyLength (getD bytes′ 0 0))) _ _);
-      count-is = g .count-is ∙ rw (d, w, t) (one-more (ltb (count + n) (bodyLength (getD bytes′ 0 0))) n _);
-    }
+pub kind-old : (bytes portion : List ℕ) (count : ℕ) → count ≤ length bytes → 0 < count → getD bytes 0 0 ≡ kindOf (take count bytes ++ portion)
+kind-old bytes portion count e h =
+    sym (List·getD-append (take count bytes) portion 0 0 (omega (arith, length-take count bytes)) ∙ getD-take count bytes 0 0 h)
 
-pub ends : (held portion bytes : List ℕ) (count n : ℕ) (lacks : Bool) → Gathering held portion count n bytes lacks → (lacks ≡ true → length portion ≤ n)
-    → (gather held portion ≡ take (count + n) bytes) × (gathered held portion ≡ n)
-ends held portion bytes count n true g e =
-    let d : drop n portion ≡ [] = drop-of-length-le portion (e refl) in
-    (g .record-is ∙ rw d, g .count-is ∙ rw (d, add-zero n))
-ends held portion bytes count n false g e = (g .record-is, g .count-is ∙ add-zero n)
+-- the copy of as many bytes as the record lacks, or as there are
+pub copied : (bytes portion : List ℕ) (count kind n : ℕ) → length bytes ≡ 28 → count < 28 → kind ≡ kindOf (take count bytes ++ portion)
+    → n ≡ length (take (suc (bodyLength kind - count)) portion)
+    → (gather (take count bytes) portion ≡ take (count + n) (paste bytes count portion n)) × (gathered (take count bytes) portion ≡ n)
+copied bytes portion count kind n e l k q =
+    let h : length (take count bytes) ≡ count = length-take-le count bytes (omega arith) in
+    let i = gather-is (take count bytes) portion (omega arith) in
+    let d : lacks (take count bytes) portion ≡ suc (bodyLength kind - count) = ap₂ (λ (x y : ℕ). suc (bodyLength x - y)) (sym k) h in
+    let t : take (lacks (take count bytes) portion) portion ≡ take n portion = ap (λ (m : ℕ). take m portion) d ∙ sym (take-taken (suc (bodyLength kind - count)) n portion q) in
+    let w : n ≤ length portion = omega (arith, length-take (suc (bodyLength kind - count)) portion) in
+    (i .0 ∙ ap (λ (l : List ℕ). take count bytes ++ l) t ∙ sym (take-paste bytes count portion n (omega arith) w), i .1 ∙ ap length t ∙ length-take-le n portion w)

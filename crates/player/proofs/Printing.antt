@@ -1,14 +1,13 @@
 -- Lines in a lent buffer, and the bytes that a player holds.
 -- Assumes nothing.
-use Prim.Native.Nat.{ℕ, _+_, _≤_, _<_}
+use Prim.Native.Nat.{ℕ, _≤_, _<_}
 use mathlib.Core.Bool.{true, false, _||_}
-use mathlib.Core.List.{List, [], _++_}
-use mathlib.Core.Path.{_≡_, sym, ap, _∙_}
-use native.Mathlib.Nat.{add-zero}
+use mathlib.Core.List.{List}
+use mathlib.Core.Path.{_≡_}
 use native.Mathlib.Omega.{arith}
-use lib.Dec.{eqb, leb}
-use lib.ListN.{length, take, drop, length-take, length-drop, take-append-drop, length-append}
-use borrow.Author.Tests.{lt-ltb, le-ltb, le-leb, eqb-true, eqb-false, ne-eqb}
+use lib.Dec.{eqb}
+use lib.ListN.{length, take, length-take}
+use borrow.Author.Tests.{lt-ltb, le-ltb, eqb-true, eqb-false, ne-eqb}
 use denote.Laws.{Is}
 use mir.Val.{Val}
 use Rattle.lists.specs.Tests.{split}
@@ -18,26 +17,7 @@ use Rattle.player.specs.Player.{sessionOf, onto, roomErrno, lastText}
 use Rattle.player.specs.declared.Player.{Player}
 use Rattle.player.proofs.Player as the
 use Rattle.lists.specs.Elements.{unmapped}
-use Rattle.text.specs.Line.{written, writtenTo}
-
--- a text in a buffer from a place on, and the place after it
-abbrev pub PutAt : List ℕ → ℕ → List ℕ → ℕ → List ℕ → Type 0
-PutAt out at text r out′ = (r ≡ at + length text) × ((r ≤ at + 29) × (out′ ≡ take at out ++ (text ++ drop r out)))
-
-pub put-at : (out : List ℕ) (at : ℕ) (text : List ℕ) (r : ℕ) (out′ : List ℕ) → at + 29 ≤ length out → length text ≤ 29 → out′ ≡ written out at text → r ≡ writtenTo out at text → PutAt out at text r out′
-put-at out at text r out′ h l p q =
-    let e : leb (at + length text) (length out) ≡ true = le-leb (at + length text) (length out) (omega arith) in
-    let s : r ≡ at + length text = rw e at q in
-    (s, (omega arith, rw s (rw e at p)))
-
-pub put-long : (out : List ℕ) (at : ℕ) (text : List ℕ) (r : ℕ) (out′ : List ℕ) → at + 29 ≤ length out → PutAt out at text r out′ → length out′ ≡ length out
-put-long out at text r out′ h w = ap length (w .1 .1) ∙ simp (length-append, length-take, length-drop) (omega (arith, w .0, w .1 .0))
-
-pub put-same : (out : List ℕ) (at : ℕ) (text text′ : List ℕ) (r : ℕ) (out′ : List ℕ) → text ≡ text′ → PutAt out at text r out′ → PutAt out at text′ r out′
-put-same out at text text′ r out′ e p = rw (← e) p
-
-pub put-none : (out : List ℕ) (at : ℕ) → PutAt out at [] at out
-put-none out at = (sym (add-zero at), (omega arith, sym (take-append-drop at out)))
+use Rattle.text.specs.Line.{PutAt}
 
 pub player-long : (p : Player) (vs : List Val) → Is the.the-row p vs → length (p .bytes) ≡ 28
 player-long p vs q = unmapped _ (p .bytes) 28 (q .1 .1 .1 .0 .1 .0 .1)
@@ -64,12 +44,12 @@ cut-is : (out : List ℕ) (p : Player) → length (p .bytes) ≡ 28 → 29 ≤ l
 unfolding finished
 cut-is out p e h t = rw (le-ltb (length out) 29 h, none-held (p .bytes) (p .cursor .count) e, t)
 
-put-first : (out text text′ : List ℕ) (r : ℕ) (out′ : List ℕ) → text ≡ text′ → PutAt out 0 text r out′ → (r ≡ length text′) × (out′ ≡ onto text′ out)
-put-first out text text′ r out′ e w =
-    let s : r ≡ length text = omega (arith, w .0) in
-    rw (← e) (s, rw (← s) (w .1 .1))
+put-first : {out text : List ℕ} {r : ℕ} {out′ : List ℕ} → PutAt out 0 text r out′ → (r ≡ length text) × (out′ ≡ onto text out)
+put-first {out} {text} {r} w =
+    let s : r ≡ length text = omega (arith, w .place) in
+    (s, rw (← s) (w .bytes))
 
-pub cut : (out : List ℕ) (p : Player) (text : List ℕ) (r : ℕ) (out′ : List ℕ) → length (p .bytes) ≡ 28 → 29 ≤ length out → (p .cursor .ended || eqb (p .cursor .count) 0) ≡ false
-    → text ≡ cutLine (p .cursor .place) → PutAt out 0 text r out′
+pub cut : {r : ℕ} {out′ : List ℕ} (out : List ℕ) (p : Player) → length (p .bytes) ≡ 28 → 29 ≤ length out → (p .cursor .ended || eqb (p .cursor .count) 0) ≡ false
+    → PutAt out 0 (cutLine (p .cursor .place)) r out′
     → (r ≡ length (lastText (sessionOf p) out)) × (out′ ≡ onto (lastText (sessionOf p) out) out)
-cut out p text r out′ e h t q w = put-first out text (lastText (sessionOf p) out) r out′ (q ∙ sym (cut-is out p e h t)) w
+cut out p e h t w = rw (cut-is out p e h t) (put-first w)

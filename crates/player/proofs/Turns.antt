@@ -16,9 +16,8 @@ use Rattle.cursor.specs.declared.Cursor.{Cursor}
 use Rattle.play.specs.declared.Played.{Played}
 use Rattle.player.proofs.Calls.{Follows, turn-is}
 use Rattle.player.proofs.Feeding.{Feeding, next, gathered-some}
-use Rattle.player.proofs.Printing.{PutAt}
 use Rattle.rules.specs.State.{State}
-use Rattle.text.specs.Line.{saidOf}
+use Rattle.text.specs.Line.{PutAt, saidOf}
 
 -- the session before the turn, and the bytes of its record; the bytes gathered and how many; the number of the call and the cursor after it
 module _ (s : State) (bytes : List ℕ) (c : Cursor) (portion : List ℕ) (n k held call : ℕ) (bytes′ : List ℕ) (c′ : Cursor) (p : Played)

@@ -1,21 +1,20 @@
 // A recorded session, played again: a player takes the log in portions, and puts a line for each record into a lent buffer.
-ghost use Prim.Native.Nat.{_+_, _≤_};
-ghost use mathlib.Core.List.{_++_};
+ghost use Prim.Native.Nat.{suc, _+_, _-_, _≤_, _<_};
 ghost use mathlib.Core.Logic.{_≢_};
 ghost use mathlib.Core.Path.{_≡_};
-ghost use lib.ListN.{length, take, drop};
+ghost use lib.ListN.{length, take};
 ghost use Rattle.log.specs.Gather.{gather, gathered};
+ghost use Rattle.log.specs.Record.{bodyLength};
 ghost use Rattle.log.specs.Session.{freshSession, taken};
 ghost use Rattle.cursor.specs.Cursor.{atMost28};
 ghost use Rattle.player.specs.Player.{sessionOf, shown, onto, roomErrno, givenOf, givenBy, lastText};
-ghost use Rattle.text.specs.Line.{textOf, saidOf};
+ghost use Rattle.text.specs.Line.{PutAt, saidOf};
 use adapter::Adapter;
 use constants::EINVAL;
 use cursor::Cursor;
 use cursor::body_length;
 use play::Played;
 use text::LINE_MAX;
-use text::Line;
 use text::Said;
 use text::answer_line;
 use text::bad_line;
@@ -44,9 +43,20 @@ pub struct Finished {
     pub written: usize,
 }
 
+// How many bytes a record of a kind lacks where so many have come; one at least, since a record is looked at after a byte of it.
+fn lacking(kind: u8, count: usize) -> usize
+    requires { ⌜ count < 28 ⌝ }
+    ensures { λ r. ⌜ r ≡ suc (bodyLength kind - count) ⌝ }
+    ensures { λ r. ⌜ count + r ≤ 28 ⌝ }
+{
+    let body = body_length(kind);
+    if count < body { body - count + 1 } else { 1 }
+}
+
 // Appends bytes to a record of which some have come, until it is whole or there are no more; says how many.
 fn gather(bytes: &mut [u8; 28], cursor: Cursor, portion: &[u8]) -> usize
     requires { ⌜ length (now bytes) ≡ 28 ⌝ }
+    requires { ⌜ 1 ≤ length (now portion) ⌝ }
     ensures { λ r. ⌜ gather (take (cursor .count) (now (bytes .entry))) (now (portion .entry)) ≡ take (atMost28 (cursor .count) + r) (now (bytes .exit)) ⌝ }
     ensures { λ r. ⌜ gathered (take (cursor .count) (now (bytes .entry))) (now (portion .entry)) ≡ r ⌝ }
     ensures { λ r. ⌜ length (now (bytes .exit)) ≡ 28 ⌝ }
@@ -54,47 +64,32 @@ fn gather(bytes: &mut [u8; 28], cursor: Cursor, portion: &[u8]) -> usize
     ensures { λ r. ⌜ atMost28 (cursor .count) + r ≤ 29 ⌝ }
 {
     let count = cursor.held();
-    let mut n = 0;
-    let mut body = body_length(bytes[0]);
-    let mut lacks = true;
-    while n < portion.len() && lacks {
-        let at = count + n;
-        if at < 28 {
-            bytes[at] = portion[n];
-        }
-        if at == 0 {
-            body = body_length(bytes[0]);
-        }
-        n += 1;
-        lacks = at < body;
+    // 28 bytes are a whole record of any kind: no log leads here, and the byte has no room
+    if count == 28 {
+        return 1;
+    }
+    let kind = if count == 0 { portion[0] } else { bytes[0] };
+    let n = lists::at_most(lacking(kind, count), portion.len());
+    let mut i = 0;
+    while i < n {
+        bytes[count + i] = portion[i];
+        i += 1;
     }
     n
 }
 
-// Puts a line into the buffer from a place on, and says the place after it.
-fn print(line: Line, out: &mut [u8], at: usize) -> usize
+// Prints what is to be said of a record, if anything is, and gives the place after it.
+fn show(out: &mut [u8], at: usize, cursor: Cursor, call: u8, kind: u8, said: Said) -> usize
     requires { ⌜ at + 29 ≤ length (now out) ⌝ }
-    ensures { λ r. ⌜ r ≡ at + length (textOf line) ⌝ }
-    ensures { λ r. ⌜ r ≤ at + 29 ⌝ }
-    ensures { λ r. ⌜ now (out .exit) ≡ take at (now (out .entry)) ++ (textOf line ++ drop r (now (out .entry))) ⌝ }
-{
-    text::put(line, out, at)
-}
-
-// Prints what is to be said of a record, if anything is.
-fn show(cursor: Cursor, call: u8, kind: u8, said: Said, out: &mut [u8], at: usize) -> usize
-    requires { ⌜ at + 29 ≤ length (now out) ⌝ }
-    ensures { λ r. ⌜ r ≡ at + length (shown cursor call kind (saidOf said)) ⌝ }
-    ensures { λ r. ⌜ r ≤ at + 29 ⌝ }
-    ensures { λ r. ⌜ now (out .exit) ≡ take at (now (out .entry)) ++ (shown cursor call kind (saidOf said) ++ drop r (now (out .entry))) ⌝ }
+    ensures { λ r. ⌜ PutAt (now (out .entry)) at (shown cursor call kind (saidOf said)) r (now (out .exit)) ⌝ }
 {
     if cursor.ended {
-        return print(bad_line(cursor.place), out, at);
+        return bad_line(out, at, cursor.place);
     }
     if call == 0 {
         return at;
     }
-    print(answer_line(kind, said), out, at)
+    answer_line(out, at, kind, said)
 }
 
 // Where the buffer has no room for a line.
@@ -145,8 +140,7 @@ impl Player {
         ensures { λ r. ⌜ r .taken ≤ length (now (portion .entry)) ⌝ }
         ensures { λ r. ⌜ r .written ≤ length (now (out .exit)) ⌝ }
     {
-        let size = out.len();
-        if size < LINE_MAX {
+        if out.len() < LINE_MAX {
             return refused(self);
         }
         let mut played = play::nothing(self.adapter);
@@ -154,7 +148,7 @@ impl Player {
         let mut cursor = self.cursor;
         let mut taken = 0;
         let mut written = 0;
-        while taken < portion.len() && !cursor.ended && written <= size - LINE_MAX {
+        while taken < portion.len() && !cursor.ended && written <= out.len() - LINE_MAX {
             let n = gather(&mut bytes, cursor, &portion[taken..]);
             taken += n;
             let kind = bytes[0];
@@ -175,8 +169,7 @@ impl Player {
                 11 => played = play::unconfigure(played.adapter),
                 _ => {}
             }
-            let said = played.said;
-            written = show(cursor, call, kind, said, out, written);
+            written = show(out, written, cursor, call, kind, played.said);
         }
         after(played, bytes, cursor, taken, written)
     }
@@ -196,7 +189,8 @@ impl Player {
         ensures { λ r. ⌜ now (out .exit) ≡ onto (lastText (sessionOf self) (now (out .entry))) (now (out .entry)) ⌝ }
         ensures { λ r. ⌜ r .written ≤ length (now (out .exit)) ⌝ }
     {
-        if out.len() < LINE_MAX {
+        let size = out.len();
+        if size < LINE_MAX {
             return Finished {
                 errno: EINVAL,
                 written: 0,
@@ -211,7 +205,7 @@ impl Player {
         }
         Finished {
             errno: 0,
-            written: print(cut_line(cursor.place), out, 0),
+            written: cut_line(out, 0, cursor.place),
         }
     }
 }

@@ -4,11 +4,11 @@ ghost use Prim.Native.Nat.{_≤_};
 fn digit(byte: u8) -> usize
     ensures { λ r. ⌜ r ≤ 9 ⌝ }
 {
-    if byte < 48 {
+    if byte < b'0' {
         return 0;
     }
-    if byte < 58 {
-        return (byte - 48) as usize;
+    if byte <= b'9' {
+        return (byte - b'0') as usize;
     }
     0
 }

@@ -17,7 +17,6 @@ use Rattle.transmission.specs.declared.Transmission.{Transmission}
 pub queue-long : (q : Queue) (vs : List Val) → Is the.the-row q vs → length (q .slots) ≡ 18
 queue-long q vs p = unmapped _ (q .slots) 18 (p .1 .1 .0 .1 .0 .1)
 
--- the queue with other slots
 abbrev pub withSlots : Queue → List Transmission → Queue
 withSlots q l = record { slots = l; count = q .count }
 

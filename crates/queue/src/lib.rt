@@ -5,9 +5,8 @@ ghost use mathlib.Core.List.{[], map};
 ghost use lib.ListN.{length, getD, drop};
 ghost use Rattle.lists.specs.Sums.{any};
 ghost use Rattle.lists.specs.Vector.{put};
-ghost use Rattle.transmission.specs.Transmission.{orphaned, numbered};
 ghost use Rattle.queue.specs.Queue.{queueOf};
-ghost use Rattle.transmission.specs.Transmission.{noTransmission, headOf, owedBy};
+ghost use Rattle.transmission.specs.Transmission.{noTransmission, headOf, owedBy, numbered, orphaned};
 use transmission::Owed;
 use transmission::Transmission;
 
@@ -27,7 +26,7 @@ impl Queue {
         }
     }
 
-    // With no transmissions.
+    // What is past the count is not read, so the slots stay.
     pub fn emptied(mut self) -> Queue
         ensures { λ r. ⌜ queueOf r ≡ [] ⌝ }
     {
@@ -39,8 +38,7 @@ impl Queue {
         ensures { λ r. ⌜ r ≡ length (queueOf self) ⌝ }
         ensures { λ r. ⌜ r ≤ 18 ⌝ }
     {
-        let n = self.count;
-        if n < 18 { n } else { 18 }
+        lists::at_most(self.count, 18)
     }
 
     // One more at the end; a full queue stays.
@@ -75,7 +73,6 @@ impl Queue {
         self.slots[i]
     }
 
-    // Without the head.
     pub fn without_head(mut self) -> Queue
         ensures { λ r. ⌜ queueOf r ≡ drop 1 (queueOf self) ⌝ }
     {
@@ -89,7 +86,6 @@ impl Queue {
         self
     }
 
-    // What is owed to a handle.
     pub fn owed(self, handle: u8) -> Owed
         ensures { λ r. ⌜ r ≡ owedBy handle (queueOf self) ⌝ }
         ensures { λ r. ⌜ r .room ≤ 36 ⌝ }
@@ -111,14 +107,13 @@ impl Queue {
         }
     }
 
-    // Whether a number is in the queue.
-    pub fn has_number(self, number: u32) -> bool
-        ensures { λ r. ⌜ r ≡ any (numbered number) (queueOf self) ⌝ }
+    pub fn has_sequence(self, sequence: u32) -> bool
+        ensures { λ r. ⌜ r ≡ any (numbered sequence) (queueOf self) ⌝ }
     {
         let n = self.count();
         let mut i = 0;
         while i < n {
-            if self.slots[i].number == number {
+            if self.slots[i].sequence == sequence {
                 return true;
             }
             i += 1;

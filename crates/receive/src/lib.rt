@@ -1,4 +1,4 @@
-// Receive.
+// The oldest entry of a handle's inbox, taken out: the others move down.
 ghost use mathlib.Core.Logic.{_≢_};
 ghost use mathlib.Core.Path.{_≡_};
 ghost use Rattle.parts.specs.Parts.{stateOf};
@@ -7,9 +7,9 @@ ghost use Rattle.rules.specs.Receive.{doReceive, receiveRefusal};
 use constants::EAGAIN;
 use constants::EBADF;
 use entry::Entry;
+use inbox::count_at;
 use parts::Parts;
 use parts::check;
-use parts::count_at;
 
 // The parts after the call, its errno, 0 for success, and the entry.
 #[repr(C)]

@@ -1,7 +1,7 @@
 // What a transmit is asked for, and the checks that look at nothing else.
 ghost use mathlib.Core.Path.{_≡_};
 ghost use lib.ListN.{getD};
-ghost use Rattle.rules.specs.Transmit.{messageOf, from, to, wantsReply, isPoll, isMalformed, isPollInvalid, isWakeUp, timeoutOf};
+ghost use Rattle.rules.specs.Transmit.{requestMessage, from, to, wantsReply, isPoll, isMalformed, isPollInvalid, isWakeUp, timeoutOf};
 ghost use Rattle.request.specs.Request.{requestOf};
 use constants::CEC_LOG_ADDR_BROADCAST;
 use constants::CEC_LOG_ADDR_UNREGISTERED;
@@ -22,7 +22,7 @@ pub struct Request {
 impl Request {
     // What would be sent.
     pub fn message(self) -> Message
-        ensures { λ r. ⌜ r ≡ messageOf (requestOf self) ⌝ }
+        ensures { λ r. ⌜ r ≡ requestMessage (requestOf self) ⌝ }
     {
         let bytes = self.bytes;
         Message::new(self.length, bytes)
@@ -30,7 +30,7 @@ impl Request {
 
     // The byte at a place of what would be sent, 0 past the length.
     fn sent_byte(self, i: usize) -> u8
-        ensures { λ r. ⌜ r ≡ getD (messageOf (requestOf self) .bytes) i 0 ⌝ }
+        ensures { λ r. ⌜ r ≡ getD (requestMessage (requestOf self) .bytes) i 0 ⌝ }
     {
         if self.length as usize <= i {
             return 0;

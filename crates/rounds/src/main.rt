@@ -33,6 +33,6 @@ fn main() {
         now = round(now);
         i += 1;
     }
-    io::print_decimal(1, now.transmit(0, poll()).number as u64);
+    io::print_decimal(1, now.transmit(0, poll()).sequence as u64);
     io::write_all(1, b"\n");
 }

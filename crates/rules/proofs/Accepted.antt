@@ -9,15 +9,16 @@ use lib.Dec.{leb, ltb}
 use lib.ListN.{length}
 use borrow.Author.Tests.{leb-false, ltb-false, not-false, lt-ltb}
 use Rattle.constants.specs.Kernel.{EBADF, ENOTTY, EPERM, EBUSY, EINVAL, ENONET}
-use Rattle.lists.specs.Tests.{bit, split, neither}
+use Rattle.lists.specs.Tests.{split, neither}
 use Rattle.rules.proofs.Checks.{passed, unless-answer}
 use Rattle.rules.proofs.Refused.{differ}
 use Rattle.rules.specs.Call.{Request, accepted}
+use Rattle.rules.specs.Derived.{roomTaken}
 use Rattle.rules.specs.Handles.{isOpen}
-use Rattle.rules.specs.Number.{nextNumber}
-use Rattle.rules.specs.Owed.{wantedReplies, roomTaken}
+use Rattle.rules.specs.Number.{nextSequence}
+use Rattle.rules.specs.Owed.{wantedReplies}
 use Rattle.rules.specs.State.{State, withQueue, withLast}
-use Rattle.rules.specs.Transmit.{doTransmit, transmitRefusal, transmissionOf, wantsReply, isSelfPoll, isFull, polled, queued}
+use Rattle.rules.specs.Transmit.{doTransmit, transmitRefusal, transmissionOf, wantsReply, isSelfPoll, isFull, polled, queued, newRoom}
 
 -- a transmit of handle h that was queued under number n, from s to t
 pub record Queued (s : State) (h : ℕ) (r : Request) (n : ℕ) (t : State) : Type 0 where
@@ -25,24 +26,24 @@ pub record Queued (s : State) (h : ℕ) (r : Request) (n : ℕ) (t : State) : Ty
   pub able : s .capabilities .transmit ≡ true
   pub place : length (s .queue) < 18
   pub replies : wantsReply r ≡ true → wantedReplies s h < 4
-  pub room : roomTaken s h + (1 + bit (wantsReply r)) ≤ 16
-  pub number : n ≡ nextNumber s
+  pub room : roomTaken s h + newRoom r ≤ 16
+  pub sequence : n ≡ nextSequence s
   pub did : t ≡ withLast (withQueue s (s .queue ++ (transmissionOf n h r ∷ []))) n
 
 -- the two last checks passed
 pub record Roomy (s : State) (h : ℕ) (r : Request) : Type 0 where
   pub place : length (s .queue) < 18
   pub replies : wantsReply r ≡ true → wantedReplies s h < 4
-  pub room : roomTaken s h + (1 + bit (wantsReply r)) ≤ 16
+  pub room : roomTaken s h + newRoom r ≤ 16
 
 not-full : (s : State) (h : ℕ) (r : Request) → isFull s h r ≡ false → Roomy s h r
 not-full s h r e =
-    let a = neither (leb 18 (length (s .queue)) || wantsReply r && leb 4 (wantedReplies s h)) (ltb 16 (roomTaken s h + (1 + bit (wantsReply r)))) e in
+    let a = neither (leb 18 (length (s .queue)) || wantsReply r && leb 4 (wantedReplies s h)) (ltb 16 (roomTaken s h + newRoom r)) e in
     let b = neither (leb 18 (length (s .queue))) (wantsReply r && leb 4 (wantedReplies s h)) (a .0) in
     record {
       place = leb-false 18 (length (s .queue)) (b .0);
       replies = λ w. leb-false 4 (wantedReplies s h) (rw w at (b .1));
-      room = ltb-false 16 (roomTaken s h + (1 + bit (wantsReply r))) (a .1);
+      room = ltb-false 16 (roomTaken s h + newRoom r) (a .1);
     }
 
 -- all ten passed
@@ -69,25 +70,16 @@ all-passed s h r q =
       fits = λ p. not-full s h r (rw p at (c10 .0));
     }
 
--- a number is given by the search alone, at once or not
-pub transmit-number : (s : State) (h : ℕ) (r : Request) (n st : ℕ) → doTransmit s h r .answer ≡ accepted n st → n ≡ nextNumber s
-unfolding doTransmit
-transmit-number s h r n st q =
-    let d = unless-answer s (cond (isSelfPoll s r) (polled s) (queued s h r)) (transmitRefusal s h r) (accepted n st) (λ e z. differ cc) q in
-    split (isSelfPoll s r)
-    (λ e. let z : accepted (nextNumber s) 0x04 ≡ accepted n st = rw e at (d .2) in cc)
-    (λ e. let z : accepted (nextNumber s) 0 ≡ accepted n st = rw e at (d .2) in cc)
-
 pub transmit-queued : (s : State) (h : ℕ) (r : Request) (n : ℕ) → doTransmit s h r .answer ≡ accepted n 0 → Queued s h r n (doTransmit s h r .state)
 unfolding doTransmit
 transmit-queued s h r n q =
     let d = unless-answer s (cond (isSelfPoll s r) (polled s) (queued s h r)) (transmitRefusal s h r) (accepted n 0) (λ e z. differ cc) q in
     let p = all-passed s h r (d .0) in
     split (isSelfPoll s r)
-    (λ e. let z : accepted (nextNumber s) 0x04 ≡ accepted n 0 = rw e at (d .2) in let y : _≡_ {A = ℕ} 0x04 0 = cc in absurd (omega arith))
+    (λ e. let z : accepted (nextSequence s) 0x04 ≡ accepted n 0 = rw e at (d .2) in let y : _≡_ {A = ℕ} 0x04 0 = cc in absurd (omega arith))
     (λ e.
-    let z : accepted (nextNumber s) 0 ≡ accepted n 0 = rw e at (d .2) in
-    let m : n ≡ nextNumber s = cc in
+    let z : accepted (nextSequence s) 0 ≡ accepted n 0 = rw e at (d .2) in
+    let m : n ≡ nextSequence s = cc in
     let f = p .fits e in
     record {
       opens = p .opens;
@@ -95,6 +87,6 @@ transmit-queued s h r n q =
       place = f .place;
       replies = f .replies;
       room = f .room;
-      number = m;
+      sequence = m;
       did = rw (d .1, e, m, lt-ltb (length (s .queue)) 18 (f .place));
     })

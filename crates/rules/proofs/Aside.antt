@@ -10,6 +10,7 @@ use lib.ListN.{length, set, length-append, length-set}
 use borrow.Author.Tests.{eqb-true, eqb-false, ne-eqb, ltb-true}
 use Rattle.entry.specs.Entry.{messageCopy}
 use Rattle.entry.specs.declared.Entry.{Entry}
+use Rattle.handle.specs.declared.Handle.{Handle}
 use Rattle.inbox.specs.Inboxes.{inboxOf}
 use Rattle.lists.specs.Elements.{map-append}
 use Rattle.lists.specs.Sums.{sum, sum-append, sum-map, sum-zero}
@@ -20,11 +21,12 @@ use Rattle.message.specs.declared.Message.{Message}
 use Rattle.rules.proofs.Entries.{messageCopy-shows}
 use Rattle.rules.proofs.Mail.{Mail, mail-same, mail-trans, copy-mail, arrives, delivered-inbox}
 use Rattle.rules.proofs.SameModes.{SameModes, modes-refl, modes-trans, modes-lost, same-open}
-use Rattle.rules.specs.Core.{sends, answers, notes, isAnswered, isNoted, coreAnswer}
-use Rattle.rules.specs.Deliver.{deliver, loses, copyTo, copies, each, handleNumbers}
+use Rattle.rules.specs.Core.{sends, answers, notes, isNoted}
+use Rattle.rules.specs.Deliver.{deliver, loses, copyTo, copies, each, handleNumbers, copyToBy, copiesBy}
+use Rattle.rules.specs.Derived.{roomTaken}
 use Rattle.rules.specs.Handles.{handleAt, isOpen, inRole}
 use Rattle.rules.specs.Incoming.{followed, refusedMessage, isCopied, isUnhandled}
-use Rattle.rules.specs.Owed.{pending, roomOwed, owedRoom, roomTaken}
+use Rattle.rules.specs.Owed.{pending, roomOwed, owedRoom}
 use Rattle.rules.specs.State.{State, withHandles, withQueue, withNoted}
 use Rattle.transmission.specs.Transmission.{noOwner, ownerless, roomFor}
 use Rattle.transmission.specs.declared.Transmission.{Transmission}
@@ -47,20 +49,23 @@ pub record Aside (s t : State) : Type 0 where
   pub room : (h : ℕ) → h < 8 → roomTaken s h ≤ 16 → roomTaken t h ≤ 16
   pub none : (h : ℕ) → isOpen s h ≡ false → inboxOf (t .inboxes) h ≡ inboxOf (s .inboxes) h
 
--- nothing at all, one after the other, one or nothing, and several
-pub aside-refl : (s : State) → Aside s s
-aside-refl s = record {
-  modes = modes-refl s;
+-- nothing but lost counts and noted addresses; nothing at all, one after the other, one or nothing, and several
+still-aside : (s : State) (hs : List Handle) (x : List ℕ) → SameModes s (withHandles s hs) → Aside s (withNoted (withHandles s hs) x)
+still-aside s hs x m = record {
+  modes = m;
   inboxes = refl;
   wire = refl;
   waits = refl;
   core = [];
   queue = sym (append-nil (s .queue));
   fits = λ l. l;
-  mail = λ h. mail-same h s s refl;
+  mail = λ h. mail-same h s _ refl;
   room = λ h l r. r;
   none = λ h e. refl;
 }
+
+pub aside-refl : (s : State) → Aside s s
+aside-refl s = still-aside s (s .handles) (s .noted) (modes-refl s)
 
 pub aside-trans : (s t u : State) → Aside s t → Aside t u → Aside s u
 aside-trans s t u a b = record {
@@ -108,18 +113,7 @@ aside-owed s t a h l = rw (a .waits) (omega (arith, aside-sum (roomFor h) (room-
 
 -- a copy: dropped and counted as lost, or delivered
 lost-aside : (s : State) (g : ℕ) → Aside s (withHandles s (set (s .handles) g (loses (handleAt s g))))
-lost-aside s g = record {
-  modes = modes-lost s g;
-  inboxes = refl;
-  wire = refl;
-  waits = refl;
-  core = [];
-  queue = sym (append-nil (s .queue));
-  fits = λ l. l;
-  mail = λ h. mail-same h s _ refl;
-  room = λ h l r. r;
-  none = λ h e. refl;
-}
+lost-aside s g = still-aside s (set (s .handles) g (loses (handleAt s g))) (s .noted) (modes-lost s g)
 
 -- a copy is delivered only where entries plus owed room is not 16
 delivered-room : (s : State) (g : ℕ) (e : Entry) (h : ℕ) → eqb (roomTaken s g) 16 ≡ false → roomTaken s h ≤ 16 → roomTaken (deliver s g e) h ≤ 16
@@ -134,7 +128,7 @@ delivered-room s g e h q r =
 
 deliver-aside : (e : Entry) → e .sequence ≡ 0 → (s : State) (g : ℕ) → isOpen s g ≡ true → eqb (roomTaken s g) 16 ≡ false → Aside s (deliver s g e)
 deliver-aside e n s g o q = record {
-  modes = record { capabilities = refl; handles = refl };
+  modes = modes-refl s;
   inboxes = length-set (s .inboxes) g (put 16 (inboxOf (s .inboxes) g) e);
   wire = refl;
   waits = refl;
@@ -149,12 +143,12 @@ deliver-aside e n s g o q = record {
 }
 
 copyTo-aside : (e : Entry) → e .sequence ≡ 0 → (s : State) (g : ℕ) → isOpen s g ≡ true → Aside s (copyTo e s g)
-unfolding copyTo
+unfolding copyToBy
 copyTo-aside e n s g o = split (eqb (roomTaken s g) 16) (λ q. rw q (lost-aside s g)) (λ q. rw q (deliver-aside e n s g o q))
 
 -- copies for all handles in a role
 pub copies-aside : (p : ℕ → Bool) (e : Entry) → e .sequence ≡ 0 → (s : State) → Aside s (copies (inRole p) e s)
-unfolding copies
+unfolding copiesBy
 copies-aside p e n s =
     each-aside (λ t h. cond (inRole p (handleAt t h)) (copyTo e t h) t)
     (λ t h. split (inRole p (handleAt t h))
@@ -167,7 +161,7 @@ copies-aside p e n s =
 sent-aside : (s : State) (m : Message) → length (s .queue) < 18 → Aside s (withQueue s (s .queue ++ (ownerless m ∷ [])))
 unfolding roomOwed
 sent-aside s m k = record {
-  modes = record { capabilities = refl; handles = refl };
+  modes = modes-refl s;
   inboxes = refl;
   wire = refl;
   waits = refl;
@@ -175,7 +169,9 @@ sent-aside s m k = record {
   queue = refl;
   fits = λ l. rw length-append (omega arith);
   mail = λ h. mail-same h s _ refl;
-  room = λ h l r. omega (arith, r, sum-append (roomFor h) (s .wire) (s .queue ++ (ownerless m ∷ [])), sum-append (roomFor h) (s .wire) (s .queue), sum-append (roomFor h) (s .queue) (ownerless m ∷ []), room-owned h l m);
+  room = λ h l r.
+      let f = roomFor h in
+      omega (arith, r, sum-append f (s .wire) (s .queue ++ (ownerless m ∷ [])), sum-append f (s .wire) (s .queue), sum-append f (s .queue) (ownerless m ∷ []), room-owned h l m);
   none = λ h e. refl;
 }
 
@@ -188,30 +184,16 @@ sends-aside s bytes = aside-if (s .capabilities .transmit) s (withQueue s (put 1
     (λ q. rw q (aside-refl s)))
 
 -- the steps of a message from the wire that end no wait
-noted-aside : (s : State) (x : List ℕ) → Aside s (withNoted s x)
-noted-aside s x = record {
-  modes = record { capabilities = refl; handles = refl };
-  inboxes = refl;
-  wire = refl;
-  waits = refl;
-  core = [];
-  queue = sym (append-nil (s .queue));
-  fits = λ l. l;
-  mail = λ h. mail-same h s (withNoted s x) refl;
-  room = λ h l r. r;
-  none = λ h e. refl;
-}
-
 pub notes-aside : (s : State) (m : Message) → Aside s (notes s m)
 unfolding notes
-notes-aside s m = aside-if (isNoted m) s _ (noted-aside s _)
+notes-aside s m = aside-if (isNoted m) s _ (still-aside s (s .handles) _ (modes-refl s))
 
-pub answers-aside : (s : State) (m : Message) → Aside s (answers s m)
+pub answers-aside : (s : State) (b : Bool) (bytes : List ℕ) → Aside s (answers s b bytes)
 unfolding answers
-answers-aside s m = aside-if (isAnswered s m) s _ (sends-aside s (coreAnswer (s .settings) m))
+answers-aside s b bytes = aside-if b s _ (sends-aside s bytes)
 
-pub followed-aside : (s : State) (t : Taken) (m : Message) → Aside s (followed s t m)
-followed-aside s t m = aside-if (isCopied s t m) s _ (copies-aside _ (messageCopy m) (messageCopy-shows m .sequence) s)
+pub followed-aside : (s : State) (b : Bool) (t : Taken) (m : Message) → Aside s (followed s b t m)
+followed-aside s b t m = aside-if (isCopied b t) s _ (copies-aside _ (messageCopy m) (messageCopy-shows m .sequence) s)
 
-pub refusedMessage-aside : (s : State) (t : Taken) (m : Message) → Aside s (refusedMessage s t m)
-refusedMessage-aside s t m = aside-if (isUnhandled s t m) s _ (sends-aside s _)
+pub refusedMessage-aside : (s : State) (b : Bool) (t : Taken) (m : Message) → Aside s (refusedMessage s b t m)
+refusedMessage-aside s b t m = aside-if (isUnhandled s b t m) s _ (sends-aside s _)

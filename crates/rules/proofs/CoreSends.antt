@@ -9,8 +9,8 @@ use Rattle.rules.specs.Core.{sends}
 use Rattle.rules.specs.State.{State, withQueue}
 use Rattle.transmission.specs.Transmission.{ownerless, noOwner}
 
-pub ownerless-number : (m : Message) → ownerless m .number ≡ 0
-ownerless-number m = refl
+pub ownerless-sequence : (m : Message) → ownerless m .sequence ≡ 0
+ownerless-sequence m = refl
 
 pub ownerless-owner : (m : Message) → ownerless m .owner ≡ noOwner
 ownerless-owner m = refl

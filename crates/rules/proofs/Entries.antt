@@ -3,15 +3,18 @@
 use Prim.Native.Nat.{ℕ}
 use mathlib.Core.Bool.{cond}
 use mathlib.Core.Path.{_≡_, refl}
-use lib.Dec.{eqb}
-use Rattle.constants.specs.Kernel.{CEC-MSG-FEATURE-ABORT}
-use Rattle.entry.specs.Entry.{result, resultCopy, reply, featureAbortReply, timedOut, aborted, messageCopy}
+use Rattle.constants.specs.Kernel.{CEC-RX-STATUS-TIMEOUT, CEC-RX-STATUS-ABORTED, CEC-TX-STATUS-ABORTED}
+use Rattle.entry.specs.Entry.{result, resultCopy, reply, featureAbortReply, messageCopy}
 use Rattle.entry.specs.declared.Counts.{Counts}
 use Rattle.entry.specs.declared.Entry.{Entry}
 use Rattle.lists.specs.Tests.{split}
-use Rattle.message.specs.Message.{opcode}
+use Rattle.message.specs.Message.{opcode, isFeatureAbort}
 use Rattle.message.specs.declared.Message.{Message}
 use Rattle.rules.specs.Incoming.{replyEntry}
+use Rattle.rules.specs.Time.{timeoutEntry}
+use Rattle.rules.specs.Unconfigure.{abortedResult, abortEntry}
+use Rattle.transmission.specs.declared.Transmission.{Transmission}
+use Rattle.wait.specs.declared.Wait.{Wait}
 
 pub record Shows (number tx rx : ℕ) (e : Entry) : Type 0 where
   pub sequence : e .sequence ≡ number
@@ -24,24 +27,27 @@ result-shows n status c m = record { sequence = refl; transmitted = refl; receiv
 pub resultCopy-shows : (status : ℕ) (c : Counts) (m : Message) → Shows 0 status 0 (resultCopy status c m)
 resultCopy-shows status c m = record { sequence = refl; transmitted = refl; received = refl }
 
-pub reply-shows : (n : ℕ) (m : Message) → Shows n 0 0x01 (reply n m)
+reply-shows : (n : ℕ) (m : Message) → Shows n 0 0x01 (reply n m)
 reply-shows n m = record { sequence = refl; transmitted = refl; received = refl }
 
-pub featureAbortReply-shows : (n : ℕ) (m : Message) → Shows n 0 0x05 (featureAbortReply n m)
+featureAbortReply-shows : (n : ℕ) (m : Message) → Shows n 0 0x05 (featureAbortReply n m)
 featureAbortReply-shows n m = record { sequence = refl; transmitted = refl; received = refl }
 
-pub timedOut-shows : (n : ℕ) (m : Message) → Shows n 0 0x02 (timedOut n m)
-timedOut-shows n m = record { sequence = refl; transmitted = refl; received = refl }
+pub abortedResult-shows : (t : Transmission) → Shows (t .sequence) CEC-TX-STATUS-ABORTED 0 (abortedResult t)
+abortedResult-shows t = record { sequence = refl; transmitted = refl; received = refl }
 
-pub aborted-shows : (n : ℕ) (m : Message) → Shows n 0 0x08 (aborted n m)
-aborted-shows n m = record { sequence = refl; transmitted = refl; received = refl }
+pub timeoutEntry-shows : (w : Wait) → Shows (w .sequence) 0 CEC-RX-STATUS-TIMEOUT (timeoutEntry w)
+timeoutEntry-shows w = record { sequence = refl; transmitted = refl; received = refl }
+
+pub abortEntry-shows : (w : Wait) → Shows (w .sequence) 0 CEC-RX-STATUS-ABORTED (abortEntry w)
+abortEntry-shows w = record { sequence = refl; transmitted = refl; received = refl }
 
 pub messageCopy-shows : (m : Message) → Shows 0 0 0x01 (messageCopy m)
 messageCopy-shows m = record { sequence = refl; transmitted = refl; received = refl }
 
 -- the entry of a reply, Feature Abort or not
-pub replyEntry-shows : (n : ℕ) (m : Message) → Shows n 0 (cond (eqb (opcode (m .bytes)) CEC-MSG-FEATURE-ABORT) 0x05 0x01) (replyEntry n m)
+pub replyEntry-shows : (n : ℕ) (m : Message) → Shows n 0 (cond (isFeatureAbort (opcode (m .bytes))) 0x05 0x01) (replyEntry n m)
 replyEntry-shows n m =
-    split (eqb (opcode (m .bytes)) CEC-MSG-FEATURE-ABORT)
+    split (isFeatureAbort (opcode (m .bytes)))
     (λ e. rw e (featureAbortReply-shows n m))
     (λ e. rw e (reply-shows n m))

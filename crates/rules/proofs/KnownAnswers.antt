@@ -10,14 +10,14 @@ use Rattle.rules.specs.Cases.{allGiven}
 use Rattle.rules.specs.Close.{doClose}
 use Rattle.rules.specs.Configure.{doConfigure}
 use Rattle.rules.specs.Core.{sends, answers, notes}
-use Rattle.rules.specs.Deliver.{copyTo, copies}
+use Rattle.rules.specs.Deliver.{copyToBy, copiesBy}
 use Rattle.rules.specs.FurtherAnswers.{handleAnswers, modeAnswers, transmitAnswers, roomAnswers, busAnswers, timeAnswers, configurationAnswers, messageAnswers, coreAnswers}
-use Rattle.rules.specs.Incoming.{doMessage, heard}
+use Rattle.rules.specs.Incoming.{doMessage, heardWith}
 use Rattle.rules.specs.KnownAnswers.{knownAnswers}
 use Rattle.rules.specs.Listing.{doListing}
 use Rattle.rules.specs.Lookup.{doLookup}
 use Rattle.rules.specs.Mode.{doMode}
-use Rattle.rules.specs.Number.{numberAfter}
+use Rattle.rules.specs.Number.{sequenceAfter}
 use Rattle.rules.specs.Open.{doOpen}
 use Rattle.rules.specs.Owed.{roomOwed, repliesWanted, isTaken}
 use Rattle.rules.specs.Receive.{doReceive}
@@ -27,8 +27,14 @@ use Rattle.rules.specs.Transmit.{doTransmit}
 use Rattle.rules.specs.Unconfigure.{doUnconfigure}
 use Rattle.waits.specs.Waits.{matchTaken}
 
+-- to unfold this is to unfold all that a call's rule is made of, so that a history of calls computes
+unfoldable pub every-rule : Unit {0}
+unfolding message isReply matchTaken fresh roomOwed repliesWanted isTaken copyToBy copiesBy unless check doOpen doClose doMode sequenceAfter doTransmit doReceive
+    doBusStart doBusResult isFinal keptCounts doTime doConfigure doUnconfigure doListing doLookup sends answers notes doMessage heardWith
+every-rule = tt
+
 pub known-answers : allGiven knownAnswers ≡ true
-unfolding message isReply matchTaken fresh roomOwed repliesWanted isTaken copyTo copies unless check doOpen doMode numberAfter doTransmit doReceive doBusStart doBusResult isFinal keptCounts doConfigure sends answers notes doMessage heard
+unfolding every-rule
 known-answers = refl
 
 pub further-answers :
@@ -41,5 +47,5 @@ pub further-answers :
     × (allGiven configurationAnswers ≡ true)
     × (allGiven messageAnswers ≡ true)
     × (allGiven coreAnswers ≡ true)
-unfolding message isReply matchTaken fresh roomOwed repliesWanted isTaken copyTo copies unless check doOpen doClose doMode numberAfter doTransmit doReceive doBusStart doBusResult isFinal keptCounts doTime doConfigure doUnconfigure doListing doLookup sends answers notes doMessage heard
+unfolding every-rule
 further-answers = (refl, refl, refl, refl, refl, refl, refl, refl, refl)

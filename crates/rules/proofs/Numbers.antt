@@ -12,7 +12,7 @@ use borrow.Author.Tests.{eqb-true, eqb-false}
 use Rattle.lists.specs.Pigeonhole.{upto, upto-add, upto-all, Distinct, hits}
 use Rattle.lists.specs.Sums.{any, count, any-none, none-any}
 use Rattle.lists.specs.Tests.{split, clash, neither}
-use Rattle.rules.specs.Number.{greatest, candidate, firstFree, numberAfter}
+use Rattle.rules.specs.Number.{greatest, candidate, firstFree, sequenceAfter}
 use Rattle.rules.specs.Owed.{isTaken}
 use Rattle.transmission.specs.Transmission.{numbered}
 use Rattle.transmission.specs.declared.Transmission.{Transmission}
@@ -53,8 +53,8 @@ module _ (ts : List Transmission) (ws : List Wait) where
       let d = candidate-distinct last k h in
       omega (
         arith,
-        hits (λ (t : Transmission). t .number) (candidate last) k ts d,
-        hits (λ (w : Wait). w .number) (candidate last) k ws d,
+        hits (λ (t : Transmission). t .sequence) (candidate last) k ts d,
+        hits (λ (w : Wait). w .sequence) (candidate last) k ws d,
         upto-add (λ i. count (numbered (candidate last i)) ts) (λ i. count (Wait.numbered (candidate last i)) ws) k,
       )
 
@@ -91,8 +91,8 @@ module _ (live : ℕ → Bool) (last : ℕ) where
 
 module _ (ts : List Transmission) (ws : List Wait) (last : ℕ) where
   -- the number given is not live
-  pub next-free : length ts + length ws < greatest → isTaken ts ws (numberAfter ts ws last) ≡ false
-  unfolding numberAfter
+  pub next-free : length ts + length ws < greatest → isTaken ts ws (sequenceAfter ts ws last) ≡ false
+  unfolding sequenceAfter
   next-free h = go (found (isTaken ts ws) last (length ts + length ws) 0)
     where
       n : ℕ
@@ -107,11 +107,11 @@ module _ (ts : List Transmission) (ws : List Wait) (last : ℕ) where
           absurd (omega arith)
 
   -- it is not 0
-  pub next-pos : numberAfter ts ws last ≢ 0
-  unfolding numberAfter
+  pub next-pos : sequenceAfter ts ws last ≢ 0
+  unfolding sequenceAfter
   next-pos = first-pos (isTaken ts ws) last (length ts + length ws) 0
 
   -- and fits 32 bits
-  pub next-le : numberAfter ts ws last ≤ greatest
-  unfolding numberAfter
+  pub next-le : sequenceAfter ts ws last ≤ greatest
+  unfolding sequenceAfter
   next-le = first-le (isTaken ts ws) last (length ts + length ws) 0

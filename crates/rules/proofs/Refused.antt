@@ -10,7 +10,8 @@ use Rattle.lists.specs.Tests.{split}
 use Rattle.rules.proofs.Checks.{unless-same}
 use Rattle.rules.specs.BusResult.{doBusResult}
 use Rattle.rules.specs.BusStart.{doBusStart}
-use Rattle.rules.specs.Call.{Call, unless, refused, listed, callOpen, callClose, callMode, callTransmit, callReceive, callBusStart, callBusResult, callMessage, callTime, callConfigure, callUnconfigure, callListing, callLookup}
+use Rattle.rules.specs.Call.{Call, unless, refused, listed, callOpen, callClose}
+use Rattle.rules.specs.Call.{callMode, callTransmit, callReceive, callBusStart, callBusResult, callMessage, callTime, callConfigure, callUnconfigure, callListing, callLookup}
 use Rattle.rules.specs.Close.{doClose}
 use Rattle.rules.specs.Configure.{doConfigure}
 use Rattle.rules.specs.Incoming.{doMessage}
@@ -45,17 +46,10 @@ refused-same s callUnconfigure e q = differ cc
 refused-same s (callListing rows) e q = unless-same s _ _ e (λ k r. differ cc) q
 refused-same s (callLookup a) e q = unless-same s _ _ e (λ k r. differ cc) q
 
--- a refused listing leaves the lent rows, and another gives them
+-- a refused listing leaves the lent rows
 pub refused-rows : (s : State) (rows : List Row) (e : ℕ) → doListing s rows .answer ≡ refused e → rowsAfter s rows ≡ rows
 unfolding doListing rowsAfter unless
 refused-rows s rows e q =
     split (eqb (listingRefusal rows) 0)
     (λ f. let z : listed (filledRows s rows) ≡ refused e = rw f at q in differ cc)
     (λ f. rw f)
-
-pub listed-rows : (s : State) (rows after : List Row) → doListing s rows .answer ≡ listed after → rowsAfter s rows ≡ after
-unfolding doListing rowsAfter unless
-listed-rows s rows after q =
-    split (eqb (listingRefusal rows) 0)
-    (λ f. let z : listed (filledRows s rows) ≡ listed after = rw f at q in rw f cc)
-    (λ f. let z : refused (listingRefusal rows) ≡ listed after = rw f at q in differ cc)

@@ -12,17 +12,21 @@ use Rattle.lists.specs.Sums.{sum, sum-map, count}
 use Rattle.lists.specs.Tests.{bit}
 use Rattle.rules.specs.Deliver.{loses}
 use Rattle.rules.specs.Handles.{handleAt, isOpen, inRole}
-use Rattle.rules.specs.State.{State, closedHandle, withHandles}
+use Rattle.rules.specs.State.{State, Capabilities, closedHandle, withHandles}
 
 -- a handle but for its lost count
 abbrev pub lossless : Handle → Handle
 lossless x = record { «is_open» = x .«is_open»; privileged = x .privileged; mode = x .mode; lost = 0 }
 
-pub record SameModes (s t : State) : Type 0 where
-  pub capabilities : t .capabilities ≡ s .capabilities
-  pub handles : map lossless (t .handles) ≡ map lossless (s .handles)
+-- the capabilities and handles of two states
+pub record Alike (c d : Capabilities) (xs ys : List Handle) : Type 0 where
+  pub capabilities : d ≡ c
+  pub handles : map lossless ys ≡ map lossless xs
 
--- nothing at all, and one after the other
+abbrev pub SameModes : State → State → Type 0
+SameModes s t = Alike (s .capabilities) (t .capabilities) (s .handles) (t .handles)
+
+-- the other parts may change; and one after the other
 pub modes-refl : (s : State) → SameModes s s
 modes-refl s = record { capabilities = refl; handles = refl }
 

@@ -38,7 +38,7 @@ keptCounts status c = record {
 
 -- the wait for the reply to a transmission
 abbrev pub waitFor : Transmission → Wait
-waitFor t = record { owner = t .owner; number = t .number; left = t .timeout; reply = t .reply; «to_followers» = t .«to_followers»; sent = t .message }
+waitFor t = record { owner = t .owner; sequence = t .sequence; left = t .timeout; reply = t .reply; «to_followers» = t .«to_followers»; sent = t .message }
 
 -- "then, with 0x01 and a reply wanted, the wait begins"
 abbrev pub begun : ℕ → Transmission → List Wait → List Wait
@@ -48,7 +48,7 @@ begun status t ws = cond (hasBit CEC-TX-STATUS-OK status && t .«wants_reply») 
 abbrev pub concluded : State → Transmission → ℕ → Counts → State
 concluded s t status kept =
     let copied = copies (inRole isMonitor) (resultCopy status kept (t .message)) s in
-    let ended = withWire (deliver copied (t .owner) (result (t .number) status kept (t .message))) (drop 1 (s .wire)) in
+    let ended = withWire (deliver copied (t .owner) (result (t .sequence) status kept (t .message))) (drop 1 (s .wire)) in
     withWaits ended (begun status t (s .waits))
 
 unfoldable pub doBusResult : State → ℕ → Counts → Outcome

@@ -8,7 +8,7 @@ use Rattle.constants.specs.Kernel.{EBADF}
 use Rattle.inbox.specs.Inboxes.{cleared}
 use Rattle.rules.specs.Call.{Outcome, finish, unless, check, Answer}
 use Rattle.rules.specs.Handles.{isOpen}
-use Rattle.rules.specs.State.{State, closedHandle}
+use Rattle.rules.specs.State.{State, closedHandle, withHandles, withInboxes, withQueue, withWire, withWaits}
 use Rattle.transmission.specs.Transmission.{orphaned}
 use Rattle.waits.specs.Waits.{withoutHandle}
 
@@ -17,17 +17,13 @@ closeRefusal s h = check (not (isOpen s h)) EBADF 0
 
 -- "Close empties the inbox, gives up the mode and ends the waits without entries; its messages, queued or on the wire, stay there without owner or reply, number 0"
 abbrev pub closed : State → ℕ → State
-closed s h = record {
-  capabilities = s .capabilities;
-  handles = set (s .handles) h closedHandle;
-  inboxes = cleared (s .inboxes) h;
-  queue = map (orphaned h) (s .queue);
-  wire = map (orphaned h) (s .wire);
-  waits = withoutHandle h (s .waits);
-  last = s .last;
-  settings = s .settings;
-  noted = s .noted;
-}
+closed s h =
+    withHandles (withInboxes (withQueue (withWire (withWaits s
+    (withoutHandle h (s .waits)))
+    (map (orphaned h) (s .wire)))
+    (map (orphaned h) (s .queue)))
+    (cleared (s .inboxes) h))
+    (set (s .handles) h closedHandle)
 
 unfoldable pub doClose : State → ℕ → Outcome
 doClose s h = unless (closeRefusal s h) s (finish Answer.done (closed s h))

@@ -9,7 +9,7 @@ use Rattle.constants.specs.Kernel.{CEC-LOG-ADDR-BROADCAST, CEC-LOG-ADDR-UNREGIS
 use Rattle.lists.specs.Vector.{put}
 use Rattle.message.specs.Message.{message, initiator, destination, opcode}
 use Rattle.message.specs.declared.Message.{Message}
-use Rattle.rules.specs.Handles.{someone, isPassthrough}
+use Rattle.rules.specs.Derived.{Derived, counted}
 use Rattle.rules.specs.State.{State, withQueue, withNoted}
 use Rattle.settings.specs.declared.Settings.{Settings}
 use Rattle.transmission.specs.Transmission.{ownerless}
@@ -40,8 +40,11 @@ isQuestion code =
     || eqb code CEC-MSG-ABORT
 
 -- "Core answers go only to directed messages from 0 to 14, and not under a 0x30 follower"
+abbrev pub isAnsweredBy : Derived → State → Message → Bool
+isAnsweredBy d s m = isDirected m && isRegistered m && not (d .passthrough s) && isQuestion (opcode (m .bytes))
+
 abbrev pub isAnswered : State → Message → Bool
-isAnswered s m = isDirected m && isRegistered m && not (someone isPassthrough s) && isQuestion (opcode (m .bytes))
+isAnswered = isAnsweredBy counted
 
 -- "9F gives 9E, version"
 abbrev pub versionAnswer : Settings → ℕ → ℕ → List ℕ
@@ -75,8 +78,9 @@ coreAnswer x m =
     (cond (eqb code CEC-MSG-GIVE-OSD-NAME) (nameAnswer x here asker)
     (featureAbort here asker code CEC-OP-ABORT-REFUSED))))
 
-unfoldable pub answers : State → Message → State
-answers s m = cond (isAnswered s m) (sends s (coreAnswer (s .settings) m)) s
+-- the core's answer, if there is one
+unfoldable pub answers : State → Bool → List ℕ → State
+answers s answered bytes = cond answered (sends s bytes) s
 
 -- document 01's noted address: "84 of length 5 or more from 0 to 14 is always noted in step 4, under a 0x30 follower too"
 abbrev pub isNoted : Message → Bool

@@ -4,14 +4,15 @@ use Prim.Native.Nat.{ℕ}
 use mathlib.Core.Bool.{Bool, cond, _&&_, _||_, not}
 use mathlib.Core.List.{List}
 use lib.Dec.{eqb, leb}
-use Rattle.constants.specs.Kernel.{EINVAL, CEC-MODE-FOLLOWER, CEC-MODE-MONITOR-ALL, CEC-MSG-FEATURE-ABORT, CEC-OP-ABORT-UNRECOGNIZED-OP}
+use Rattle.constants.specs.Kernel.{EINVAL, CEC-MODE-FOLLOWER, CEC-MODE-MONITOR-ALL, CEC-OP-ABORT-UNRECOGNIZED-OP}
 use Rattle.entry.specs.Entry.{reply, featureAbortReply, messageCopy}
 use Rattle.entry.specs.declared.Entry.{Entry}
-use Rattle.message.specs.Message.{message, initiator, destination, opcode}
+use Rattle.message.specs.Message.{message, initiator, destination, opcode, isFeatureAbort}
 use Rattle.message.specs.declared.Message.{Message}
 use Rattle.rules.specs.Call.{Outcome, finish, unless, check, Answer}
-use Rattle.rules.specs.Core.{sends, isDirected, isRegistered, isAnswered, answers, isNoted, notes, featureAbort}
+use Rattle.rules.specs.Core.{sends, isDirected, isRegistered, isAnswered, answers, isNoted, notes, coreAnswer, featureAbort}
 use Rattle.rules.specs.Deliver.{deliver, copies}
+use Rattle.rules.specs.Derived.{Derived, counted}
 use Rattle.rules.specs.Handles.{inRole, someone, followerPart, isFollower, isMonitor, isExclusiveFollower, isConfigured, isHere}
 use Rattle.rules.specs.State.{State, withWaits}
 use Rattle.waits.specs.Waits.{Taken, matchTaken}
@@ -30,45 +31,52 @@ stops s m = not (isConfigured s) || eqb (m .length) 1 || not (isHere s (destinat
 
 -- 3. "its handle gets the message under that number, rx_status 0x01, or 0x05 for Feature Abort"
 abbrev pub replyEntry : ℕ → Message → Entry
-replyEntry number m = cond (eqb (opcode (m .bytes)) CEC-MSG-FEATURE-ABORT) (featureAbortReply number m) (reply number m)
+replyEntry number m = cond (isFeatureAbort (opcode (m .bytes))) (featureAbortReply number m) (reply number m)
 
 -- "the oldest matching wait ends"
 abbrev pub replied : State → Taken → Message → State
-replied s t m = cond (t .found) (deliver (withWaits s (t .rest)) (t .wait .owner) (replyEntry (t .wait .number) m)) s
+replied s t m = cond (t .found) (deliver (withWaits s (t .rest)) (t .wait .owner) (replyEntry (t .wait .sequence) m)) s
 
 -- 5. "If no reply, or the flag was set: a copy .. Messages the core answered are not copied."
-abbrev pub isCopied : State → Taken → Message → Bool
-isCopied s t m = not (isAnswered s m) && (not (t .found) || t .wait .«to_followers»)
+abbrev pub isCopied : Bool → Taken → Bool
+isCopied answered t = not answered && (not (t .found) || t .wait .«to_followers»)
 
 -- "to the exclusive follower, or with none to every 0x10 handle, ascending"
-abbrev pub follows : State → ℕ → Bool
-follows s mode = cond (someone isExclusiveFollower s) (isExclusiveFollower mode) (eqb (followerPart mode) CEC-MODE-FOLLOWER)
+abbrev pub followsBy : Derived → State → ℕ → Bool
+followsBy d s mode = cond (d .exclusiveFollower s) (isExclusiveFollower mode) (eqb (followerPart mode) CEC-MODE-FOLLOWER)
 
-abbrev pub followed : State → Taken → Message → State
-followed s t m = cond (isCopied s t m) (copies (inRole (follows s)) (messageCopy m) s) s
+abbrev pub follows : State → ℕ → Bool
+follows = followsBy counted
+
+abbrev pub followed : State → Bool → Taken → Message → State
+followed s answered t m = cond (isCopied answered t) (copies (inRole (follows s)) (messageCopy m) s) s
 
 -- 6. "No reply, no follower, no core work, directed, initiator not 15, opcode not 0x00"
-abbrev pub isUnhandled : State → Taken → Message → Bool
-isUnhandled s t m =
+abbrev pub isUnhandled : State → Bool → Taken → Message → Bool
+isUnhandled s answered t m =
     not (t .found)
     && not (someone isFollower s)
-    && not (isAnswered s m || isNoted m)
+    && not (answered || isNoted m)
     && isDirected m
     && isRegistered m
-    && not (eqb (opcode (m .bytes)) CEC-MSG-FEATURE-ABORT)
+    && not (isFeatureAbort (opcode (m .bytes)))
 
 -- "Feature Abort (00, opcode, reason 0) to the initiator", from the address asked
-abbrev pub refusedMessage : State → Taken → Message → State
-refusedMessage s t m = cond (isUnhandled s t m) (sends s (featureAbort (destination (m .bytes)) (initiator (m .bytes)) (opcode (m .bytes)) CEC-OP-ABORT-UNRECOGNIZED-OP)) s
+abbrev pub refusedMessage : State → Bool → Taken → Message → State
+refusedMessage s answered t m = cond (isUnhandled s answered t m) (sends s (featureAbort (destination (m .bytes)) (initiator (m .bytes)) (opcode (m .bytes)) CEC-OP-ABORT-UNRECOGNIZED-OP)) s
 
 -- steps 3 to 6, with the wait that the message ends; 4. "Core work (below), reply or not."
-abbrev pub handled : State → Taken → Message → State
-handled s t m = refusedMessage (followed (answers (notes (replied s t m) m) m) t m) t m
+abbrev pub handled : State → Bool → List ℕ → Taken → Message → State
+handled s answered bytes t m = refusedMessage (followed (answers (notes (replied s t m) m) answered bytes) answered t m) answered t m
 
-unfoldable pub heard : State → Message → State
-heard s m =
+-- all six, with what the core says
+unfoldable pub heardWith : State → Bool → List ℕ → Message → State
+heardWith s answered bytes m =
     let copied = copies (inRole (monitors s m)) (messageCopy m) s in
-    cond (stops s m) copied (handled copied (matchTaken m (s .waits)) m)
+    cond (stops s m) copied (handled copied answered bytes (matchTaken m (s .waits)) m)
+
+abbrev pub heard : State → Message → State
+heard s m = heardWith s (isAnswered s m) (coreAnswer (s .settings) m) m
 
 unfoldable pub doMessage : State → ℕ → List ℕ → Outcome
 doMessage s n bytes = unless (incomingRefusal n) s (finish Answer.done (heard s (message n bytes)))

@@ -1,6 +1,7 @@
 pub mod State
 pub mod Handles
 pub mod Owed
+pub mod Derived
 pub mod Deliver
 pub mod Call
 pub mod Open

@@ -10,8 +10,8 @@ use Rattle.handle.specs.declared.Row.{Row}
 use Rattle.inbox.specs.Inboxes.{inboxOf}
 use Rattle.rules.specs.Call.{Outcome, finish, unless, check, Answer}
 use Rattle.rules.specs.Deliver.{handleNumbers}
+use Rattle.rules.specs.Derived.{Derived, counted}
 use Rattle.rules.specs.Handles.{handleAt, isOpen}
-use Rattle.rules.specs.Owed.{owedRoom}
 use Rattle.rules.specs.State.{State}
 
 -- "Under 8 rows: EINVAL"
@@ -19,10 +19,13 @@ abbrev pub listingRefusal : List Row → ℕ
 listingRefusal rows = check (ltb (length rows) 8) EINVAL 0
 
 -- "number, open or not, mode, entries, owed room, lost; a closed row is 0 but for its number"
-abbrev pub rowOf : State → ℕ → Row
-rowOf s h = cond (isOpen s h)
-    (record { number = h; «is_open» = true; mode = handleAt s h .mode; entries = length (inboxOf (s .inboxes) h); owed = owedRoom s h; lost = handleAt s h .lost })
+abbrev pub rowOfBy : Derived → State → ℕ → Row
+rowOfBy d s h = cond (isOpen s h)
+    (record { number = h; «is_open» = true; mode = handleAt s h .mode; entries = length (inboxOf (s .inboxes) h); owed = d .owed s h; lost = handleAt s h .lost })
     (record { number = h; «is_open» = false; mode = 0; entries = 0; owed = 0; lost = 0 })
+
+abbrev pub rowOf : State → ℕ → Row
+rowOf = rowOfBy counted
 
 -- "rows past 8 stay"
 abbrev pub filledRows : State → List Row → List Row

@@ -7,6 +7,7 @@ use lib.ListN.{set}
 use Rattle.constants.specs.Kernel.{EBADF, EINVAL, EPERM, EBUSY, CEC-MODE-NO-FOLLOWER, CEC-MODE-MONITOR-ALL}
 use Rattle.handle.specs.declared.Handle.{Handle}
 use Rattle.rules.specs.Call.{Outcome, finish, unless, check, Answer}
+use Rattle.rules.specs.Derived.{Derived, counted}
 use Rattle.rules.specs.Handles.{handleAt, isOpen, initiatorPart, followerPart, isFollower, isMonitor, isExclusiveInitiator, isExclusiveFollower, another}
 use Rattle.rules.specs.State.{State, withHandles}
 
@@ -31,16 +32,22 @@ abbrev pub isModeInvalid : State → ℕ → Bool
 isModeInvalid s mode = not (isMode mode) || isMonitorInitiator mode || isUnableFollower s mode || isMonitorAllUnable s mode
 
 -- "low digit 2 while another handle has 2, or 0x20 or 0x30 while another has 0x20 or 0x30"
+abbrev pub isRoleHeldBy : Derived → State → ℕ → ℕ → Bool
+isRoleHeldBy d s h mode = isExclusiveInitiator mode && d .otherInitiator s h || isExclusiveFollower mode && d .otherFollower s h
+
 abbrev pub isRoleHeld : State → ℕ → ℕ → Bool
-isRoleHeld s h mode = isExclusiveInitiator mode && another isExclusiveInitiator s h || isExclusiveFollower mode && another isExclusiveFollower s h
+isRoleHeld = isRoleHeldBy counted
 
 -- "Checks in order"
-abbrev pub modeRefusal : State → ℕ → ℕ → ℕ
-modeRefusal s h mode =
+abbrev pub modeRefusalBy : Derived → State → ℕ → ℕ → ℕ
+modeRefusalBy d s h mode =
     check (not (isOpen s h)) EBADF
     (check (isModeInvalid s mode) EINVAL
     (check (isMonitor mode && not (handleAt s h .privileged)) EPERM
-    (check (isRoleHeld s h mode) EBUSY 0)))
+    (check (isRoleHeldBy d s h mode) EBUSY 0)))
+
+abbrev pub modeRefusal : State → ℕ → ℕ → ℕ
+modeRefusal = modeRefusalBy counted
 
 abbrev pub inMode : Handle → ℕ → Handle
 inMode x mode = record { «is_open» = x .«is_open»; privileged = x .privileged; mode = mode; lost = x .lost }

@@ -24,8 +24,8 @@ firstFree live last (suc more) k =
     cond (live (candidate last k)) later (candidate last k)
 
 -- "the next after the last one given, .. skipping .. every number still queued, on the wire or waiting": found within as many tries as there are such, and one more
-unfoldable pub numberAfter : List Transmission → List Wait → ℕ → ℕ
-numberAfter ts ws last = firstFree (isTaken ts ws) last (length ts + length ws) 0
+unfoldable pub sequenceAfter : List Transmission → List Wait → ℕ → ℕ
+sequenceAfter ts ws last = firstFree (isTaken ts ws) last (length ts + length ws) 0
 
-abbrev pub nextNumber : State → ℕ
-nextNumber s = numberAfter (pending s) (s .waits) (s .last)
+abbrev pub nextSequence : State → ℕ
+nextSequence s = sequenceAfter (pending s) (s .waits) (s .last)

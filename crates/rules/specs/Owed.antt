@@ -3,8 +3,6 @@
 use Prim.Native.Nat.{ℕ, _+_}
 use mathlib.Core.Bool.{Bool, _||_}
 use mathlib.Core.List.{List, _++_}
-use lib.ListN.{length}
-use Rattle.inbox.specs.Inboxes.{inboxOf}
 use Rattle.lists.specs.Sums.{sum, count, any}
 use Rattle.rules.specs.State.{State}
 use Rattle.transmission.specs.Transmission.{roomFor, replyFor, numbered}
@@ -30,10 +28,6 @@ repliesWanted ts ws h = sum (replyFor h) ts + count (ownedBy h) ws
 
 abbrev pub wantedReplies : State → ℕ → ℕ
 wantedReplies s h = repliesWanted (pending s) (s .waits) h
-
--- "entries plus owed room"
-abbrev pub roomTaken : State → ℕ → ℕ
-roomTaken s h = length (inboxOf (s .inboxes) h) + owedRoom s h
 
 -- "every number still queued, on the wire or waiting"
 unfoldable pub isTaken : List Transmission → List Wait → ℕ → Bool

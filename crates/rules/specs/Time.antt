@@ -5,6 +5,7 @@ use mathlib.Core.Bool.{not}
 use mathlib.Core.List.{List, map}
 use lib.Dec.{leb}
 use Rattle.entry.specs.Entry.{timedOut}
+use Rattle.entry.specs.declared.Entry.{Entry}
 use Rattle.lists.specs.Order.{sort}
 use Rattle.lists.specs.Sums.{keep}
 use Rattle.rules.specs.Call.{Outcome, finish, Answer}
@@ -22,8 +23,11 @@ abbrev pub remaining : ℕ → List Wait → List Wait
 remaining ms ws = map (reduced ms) (keep (λ w. not (leb (leftOf w) ms)) ws)
 
 -- "with an entry of its number, rx_status 0x02, and the sent length and bytes"
+abbrev pub timeoutEntry : Wait → Entry
+timeoutEntry w = timedOut (w .sequence) (w .sent)
+
 abbrev pub timeOut : State → Wait → State
-timeOut s w = deliver s (w .owner) (timedOut (w .number) (w .sent))
+timeOut s w = deliver s (w .owner) (timeoutEntry w)
 
 unfoldable pub doTime : State → ℕ → Outcome
 doTime s ms = finish Answer.done (each timeOut (withWaits s (remaining ms (s .waits))) (overdue ms (s .waits)))

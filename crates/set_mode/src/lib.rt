@@ -1,4 +1,4 @@
-// Mode.
+// Another mode for a handle: the checks in their order, and the change.
 ghost use mathlib.Core.Logic.{_≢_};
 ghost use mathlib.Core.Path.{_≡_};
 ghost use Rattle.parts.specs.Parts.{stateOf, doneOf};
@@ -56,12 +56,11 @@ fn is_mode_invalid(parts: Parts, mode: u32) -> bool
 fn is_role_held(parts: Parts, handle: u8, mode: u32) -> bool
     ensures { λ r. ⌜ r ≡ isRoleHeld (stateOf parts) handle mode ⌝ }
 {
-    let others = parts.handles.roles(handle);
+    let others = parts.handles.roles_of_others(handle);
     is_exclusive_initiator(mode) & others.exclusive_initiator
         | is_exclusive_follower(mode) & others.exclusive_follower
 }
 
-// "Checks in order"
 fn mode_errno(parts: Parts, handle: u8, mode: u32) -> u32
     ensures { λ r. ⌜ r ≡ modeRefusal (stateOf parts) handle mode ⌝ }
 {

@@ -2,12 +2,11 @@
 -- Assumes nothing.
 use mathlib.Core.Bool.{Bool, _&&_, _||_, not}
 use mathlib.Core.List.{List}
-use lib.Dec.{eqb, leb}
-use Rattle.constants.specs.Kernel.{CEC-MSG-FEATURE-ABORT}
+use lib.Dec.{leb}
 use Rattle.core.specs.declared.Work.{Work}
 use Rattle.handle.specs.declared.Handle.{Handle}
 use Rattle.lists.specs.Sums.{any}
-use Rattle.message.specs.Message.{opcode}
+use Rattle.message.specs.Message.{opcode, isFeatureAbort}
 use Rattle.message.specs.declared.Message.{Message}
 use Rattle.rules.specs.Core.{isDirected, isRegistered}
 use Rattle.rules.specs.Handles.{inRole, isExclusiveFollower, isFollower, isPassthrough}
@@ -34,5 +33,5 @@ chosenOf hs work found flag m = record {
       && not (answersTo hs work m || notesOf work m)
       && isDirected m
       && isRegistered m
-      && not (eqb (opcode (m .bytes)) CEC-MSG-FEATURE-ABORT);
+      && not (isFeatureAbort (opcode (m .bytes)));
 }

@@ -41,7 +41,7 @@ pub fn choose(
 ) -> Chosen
     ensures { λ r. ⌜ r ≡ chosenOf (handlesOf handles) work found «to_followers» message ⌝ }
 {
-    let roles = handles.roles(8);
+    let roles = handles.roles();
     let directed = is_directed(message);
     let registered = is_registered(message);
     let answers = directed & registered & !roles.passthrough & work.is_question;

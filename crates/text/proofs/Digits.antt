@@ -2,7 +2,7 @@
 -- Assumes nothing.
 use Prim.Native.Nat.{ℕ, zero, suc, _+_, _/_, _%_, _^_, _≤_, _<_}
 use mathlib.Core.List.{List, [], _∷_, _++_}
-use mathlib.Core.Path.{_≡_, ap}
+use mathlib.Core.Path.{_≡_, ap, _∙_}
 use native.Mathlib.Omega.{arith}
 use lib.Dec.{ltb}
 use lib.ListN.{length, length-append}
@@ -36,6 +36,9 @@ decimal-one n h = rw (lt-ltb n 10 h)
 pub decimal-next : (n : ℕ) → 10 ≤ n → n < 2 ^ 64 → decimal n ≡ decimal (n / 10) ++ ((48 + n % 10) ∷ [])
 unfolding decimal
 decimal-next n h g = rw (le-ltb n 10 h) (ap (λ (l : List ℕ). l ++ ((48 + n % 10) ∷ [])) (digits-more 18 (n / 10) (omega arith)))
+
+pub length-next : (n : ℕ) → 10 ≤ n → n < 2 ^ 64 → length (decimal n) ≡ length (decimal (n / 10)) + 1
+length-next n h g = ap length (decimal-next n h g) ∙ length-append (decimal (n / 10)) ((48 + n % 10) ∷ [])
 
 -- the digits of a byte, and of numbers of 32 and 64 bits
 pub decimal-8 : (n : ℕ) → n < 2 ^ 8 → length (decimal n) ≤ 3

@@ -1,11 +1,10 @@
-// The lines of a replay: a line of text by value, built byte by byte, and put into a lent buffer.
-ghost use Prim.Native.Nat.{_≤_};
-ghost use mathlib.Core.List.{[], _∷_};
+// The lines of a replay, written into a lent buffer.
+ghost use Prim.Native.Nat.{_+_, _≤_};
+ghost use mathlib.Core.List.{[], _∷_, _++_};
 ghost use mathlib.Core.Path.{_≡_};
 ghost use lib.ListN.{length};
-ghost use Rattle.lists.specs.Vector.{put};
 ghost use Rattle.log.specs.Text.{decimal, blanked, lineOf, badLine, cutLine};
-ghost use Rattle.text.specs.Line.{textOf, saidOf, puts, written, writtenTo};
+ghost use Rattle.text.specs.Line.{saidOf, PutAt, LineAt};
 use entry::Entry;
 
 // No line of a replay is longer.
@@ -19,134 +18,119 @@ pub struct Said {
     pub entry: Entry,
 }
 
-#[repr(C)]
-pub struct Line {
-    bytes: [u8; 29],
-    length: usize,
-}
-
-impl Line {
-    fn empty() -> Line
-        ensures { λ r. ⌜ textOf r ≡ [] ⌝ }
-    {
-        Line {
-            bytes: [0; 29],
-            length: 0,
-        }
-    }
-
-    fn length(self) -> usize
-        ensures { λ r. ⌜ r ≡ length (textOf self) ⌝ }
-        ensures { λ r. ⌜ r ≤ 29 ⌝ }
-    {
-        let n = self.length;
-        if n < 29 { n } else { 29 }
-    }
-
-    // One byte more; a full line stays.
-    fn byte(mut self, byte: u8) -> Line
-        ensures { λ r. ⌜ textOf r ≡ put 29 (textOf self) byte ⌝ }
-    {
-        let n = self.length;
-        if n < 29 {
-            self.bytes[n] = byte;
-            self.length = n + 1;
-        }
-        self
-    }
-
-    // A number in decimal.
-    fn decimal(self, n: u64) -> Line
-        ensures { λ r. ⌜ textOf r ≡ puts (textOf self) (decimal n) ⌝ }
-    {
-        if n < 10 {
-            return self.byte(48 + n as u8);
-        }
-        self.decimal(n / 10).byte(48 + (n % 10) as u8)
-    }
-
-    // A blank and a number.
-    fn number(self, n: u64) -> Line
-        ensures { λ r. ⌜ textOf r ≡ puts (textOf self) (blanked (n ∷ [])) ⌝ }
-        ensures { λ r. ⌜ length (decimal n) ≤ 20 ⌝ }
-    {
-        self.byte(32).decimal(n)
-    }
-
-    fn number_32(self, n: u32) -> Line
-        ensures { λ r. ⌜ textOf r ≡ puts (textOf self) (blanked (n ∷ [])) ⌝ }
-        ensures { λ r. ⌜ length (decimal n) ≤ 10 ⌝ }
-    {
-        self.byte(32).decimal(n as u64)
-    }
-
-    fn number_8(self, n: u8) -> Line
-        ensures { λ r. ⌜ textOf r ≡ puts (textOf self) (blanked (n ∷ [])) ⌝ }
-        ensures { λ r. ⌜ length (decimal n) ≤ 3 ⌝ }
-    {
-        self.byte(32).decimal(n as u64)
-    }
-}
-
-// The line of a record: its kind, and what the answer says.
-pub fn answer_line(kind: u8, said: Said) -> Line
-    ensures { λ r. ⌜ textOf r ≡ lineOf kind (saidOf said) ⌝ }
+// Each of these functions puts its text at a place, and gives the place after it.
+fn byte(out: &mut [u8], at: usize, byte: u8) -> usize
+    requires { ⌜ at + 1 ≤ length (now out) ⌝ }
+    ensures { λ r. ⌜ PutAt (now (out .entry)) at (byte ∷ []) r (now (out .exit)) ⌝ }
 {
-    let line = Line::empty().decimal(kind as u64);
+    out[at] = byte;
+    at + 1
+}
+
+fn decimal(out: &mut [u8], at: usize, n: u64) -> usize
+    requires { ⌜ at + length (decimal n) ≤ length (now out) ⌝ }
+    ensures { λ r. ⌜ PutAt (now (out .entry)) at (decimal n) r (now (out .exit)) ⌝ }
+{
+    if n < 10 {
+        return byte(out, at, b'0' + n as u8);
+    }
+    let last = decimal(out, at, n / 10);
+    byte(out, last, b'0' + (n % 10) as u8)
+}
+
+// A blank and a number, by its width: at most 20, 10 or 3 digits.
+fn number(out: &mut [u8], at: usize, n: u64) -> usize
+    requires { ⌜ at + 21 ≤ length (now out) ⌝ }
+    ensures { λ r. ⌜ PutAt (now (out .entry)) at (blanked (n ∷ [])) r (now (out .exit)) ⌝ }
+    ensures { λ r. ⌜ r ≤ at + 21 ⌝ }
+{
+    let next = byte(out, at, b' ');
+    decimal(out, next, n)
+}
+
+fn number_32(out: &mut [u8], at: usize, n: u32) -> usize
+    requires { ⌜ at + 11 ≤ length (now out) ⌝ }
+    ensures { λ r. ⌜ PutAt (now (out .entry)) at (blanked (n ∷ [])) r (now (out .exit)) ⌝ }
+    ensures { λ r. ⌜ r ≤ at + 11 ⌝ }
+{
+    let next = byte(out, at, b' ');
+    decimal(out, next, n as u64)
+}
+
+fn number_8(out: &mut [u8], at: usize, n: u8) -> usize
+    requires { ⌜ at + 4 ≤ length (now out) ⌝ }
+    ensures { λ r. ⌜ PutAt (now (out .entry)) at (blanked (n ∷ [])) r (now (out .exit)) ⌝ }
+    ensures { λ r. ⌜ r ≤ at + 4 ⌝ }
+{
+    let next = byte(out, at, b' ');
+    decimal(out, next, n as u64)
+}
+
+// What a receive that gave an entry says: its errno is 0.
+fn numbers(out: &mut [u8], at: usize, entry: Entry) -> usize
+    requires { ⌜ at + 25 ≤ length (now out) ⌝ }
+    ensures { λ r. ⌜ PutAt (now (out .entry)) at (blanked (0 ∷ entry .sequence ∷ entry .«tx_status» ∷ entry .«rx_status» ∷ entry .message .length ∷ [])) r (now (out .exit)) ⌝ }
+    ensures { λ r. ⌜ r ≤ at + 25 ⌝ }
+{
+    let message = entry.message;
+    let mut end = byte(out, at, b' ');
+    end = byte(out, end, b'0');
+    end = number_32(out, end, entry.sequence);
+    end = number_8(out, end, entry.tx_status);
+    end = number_8(out, end, entry.rx_status);
+    number_8(out, end, message.length())
+}
+
+// The line of a record: its kind, and what the answer says. The test of the room is written as in the loop of `Player::feed`,
+// so that it is made once there.
+pub fn answer_line(out: &mut [u8], at: usize, kind: u8, said: Said) -> usize
+    ensures { λ r. ⌜ LineAt (now (out .entry)) at (lineOf kind (saidOf said)) r (now (out .exit)) ⌝ }
+{
+    let size = out.len();
+    if size < LINE_MAX {
+        return at;
+    }
+    if size - LINE_MAX < at {
+        return at;
+    }
+    let begun = decimal(out, at, kind as u64);
     if said.is_entry {
         let entry = said.entry;
-        let message = entry.message;
-        return line.number_8(0)
-            .number_32(entry.sequence)
-            .number_8(entry.tx_status)
-            .number_8(entry.rx_status)
-            .number_8(message.length())
-            .byte(10);
+        let end = numbers(out, begun, entry);
+        return byte(out, end, b'\n');
     }
-    line.number_32(said.errno).byte(10)
+    let end = number_32(out, begun, said.errno);
+    byte(out, end, b'\n')
+}
+
+// A word of three letters and a place in the log.
+fn place_line(out: &mut [u8], at: usize, b0: u8, b1: u8, b2: u8, place: u64) -> usize
+    ensures { λ r. ⌜ LineAt (now (out .entry)) at (b0 ∷ b1 ∷ b2 ∷ (blanked (place ∷ []) ++ (10 ∷ []))) r (now (out .exit)) ⌝ }
+{
+    let size = out.len();
+    if size < LINE_MAX {
+        return at;
+    }
+    if size - LINE_MAX < at {
+        return at;
+    }
+    let mut end = byte(out, at, b0);
+    end = byte(out, end, b1);
+    end = byte(out, end, b2);
+    end = number(out, end, place);
+    byte(out, end, b'\n')
 }
 
 // "An unknown kind prints `bad` and its offset".
-pub fn bad_line(place: u64) -> Line
-    ensures { λ r. ⌜ textOf r ≡ badLine place ⌝ }
+pub fn bad_line(out: &mut [u8], at: usize, place: u64) -> usize
+    ensures { λ r. ⌜ LineAt (now (out .entry)) at (badLine place) r (now (out .exit)) ⌝ }
 {
-    Line::empty()
-        .byte(98)
-        .byte(97)
-        .byte(100)
-        .number(place)
-        .byte(10)
+    place_line(out, at, b'b', b'a', b'd', place)
 }
 
 // "a cut record at the end prints `cut` and its offset".
-pub fn cut_line(place: u64) -> Line
-    ensures { λ r. ⌜ textOf r ≡ cutLine place ⌝ }
+pub fn cut_line(out: &mut [u8], at: usize, place: u64) -> usize
+    ensures { λ r. ⌜ LineAt (now (out .entry)) at (cutLine place) r (now (out .exit)) ⌝ }
 {
-    Line::empty()
-        .byte(99)
-        .byte(117)
-        .byte(116)
-        .number(place)
-        .byte(10)
-}
-
-// The line into a buffer from a place on, and the place after it; where it has no room for the line, both stay.
-pub fn put(line: Line, out: &mut [u8], at: usize) -> usize
-    ensures { λ r. ⌜ now (out .exit) ≡ written (now (out .entry)) at (textOf line) ⌝ }
-    ensures { λ r. ⌜ r ≡ writtenTo (now (out .entry)) at (textOf line) ⌝ }
-{
-    let n = line.length();
-    let size = out.len();
-    if size < n {
-        return at;
-    }
-    if size - n < at {
-        return at;
-    }
-    let mut i = 0;
-    while i < n {
-        out[at + i] = line.bytes[i];
-        i += 1;
-    }
-    at + n
+    place_line(out, at, b'c', b'u', b't', place)
 }

@@ -75,18 +75,18 @@ same ms (w ∷ ws) =
     (λ e. same-later ms (w ∷ ws) (leb-false (nextLeft (w ∷ ws)) ms e))
 
 -- one turn of the loop: the wait taken out is the first, and the next is looked for
-pub due-on : (ms : ℕ) (t u : Taken) → t .found ≡ true → u ≡ dueTaken ms (t .rest) → dueOf ms t ≡ t .wait ∷ dueOf ms u
-due-on ms t u e q = rw (e, q) (ap (λ (ws : List Wait). t .wait ∷ ws) (sym (same ms (t .rest) .due)))
+pub due-next : (ms : ℕ) (t u : Taken) → t .found ≡ true → u ≡ dueTaken ms (t .rest) → dueOf ms t ≡ t .wait ∷ dueOf ms u
+due-next ms t u e q = rw (e, q) (ap (λ (ws : List Wait). t .wait ∷ ws) (sym (same ms (t .rest) .due)))
 
-pub others-on : (ms : ℕ) (t u : Taken) → t .found ≡ true → u ≡ dueTaken ms (t .rest) → othersOf ms t ≡ othersOf ms u
-others-on ms t u e q = rw (e, q) (sym (same ms (t .rest) .rest))
+pub others-next : (ms : ℕ) (t u : Taken) → t .found ≡ true → u ≡ dueTaken ms (t .rest) → othersOf ms t ≡ othersOf ms u
+others-next ms t u e q = rw (e, q) (sym (same ms (t .rest) .rest))
 
 -- none is found: none is left to end
-pub due-off : (ms : ℕ) (t : Taken) → t .found ≡ false → dueOf ms t ≡ []
-due-off ms t e = rw e
+pub due-none : (ms : ℕ) (t : Taken) → t .found ≡ false → dueOf ms t ≡ []
+due-none ms t e = rw e
 
-pub others-off : (ms : ℕ) (t : Taken) → t .found ≡ false → othersOf ms t ≡ t .rest
-others-off ms t e = rw e
+pub others-none : (ms : ℕ) (t : Taken) → t .found ≡ false → othersOf ms t ≡ t .rest
+others-none ms t e = rw e
 
 -- the rule's state, from the state with the new inboxes
 pub elapsed-parts : (s u : State) (is js : List (List Entry)) (ws rs : List Wait) → u ≡ withInboxes s is → is ≡ js → ws ≡ rs → withWaits u ws ≡ withInboxes (withWaits s rs) js

@@ -1,11 +1,11 @@
-// Elapsed time.
+// Time passes, and ends waits.
 ghost use mathlib.Core.Path.{_≡_};
 ghost use Rattle.parts.specs.Parts.{stateOf, doneOf};
 ghost use Rattle.rules.specs.Time.{doTime};
 use entry::Entry;
+use inbox::count_at;
 use parts::Done;
 use parts::Parts;
-use parts::count_at;
 
 // Each wait with no more left than that ends by an entry for its owner, with the sent length and bytes, least time left first, oldest first where equal. Others are reduced.
 pub fn time(mut parts: Parts, ms: u32) -> Done
@@ -15,10 +15,10 @@ pub fn time(mut parts: Parts, ms: u32) -> Done
         let mut ended = parts.waits.take_due(ms);
         while ended.found {
             let wait = ended.wait;
-            let h = wait.owner as usize;
             let n = count_at(parts.counts, wait.owner);
-            if h < 8 && n < 16 {
-                parts.entries[16 * h + n] = Entry::timed_out(wait.number, wait.sent);
+            let h = wait.owner as usize;
+            if (h < 8) & (n < 16) {
+                parts.entries[16 * h + n] = Entry::timed_out(wait.sequence, wait.sent);
                 parts.counts[h] = n + 1;
             }
             ended = ended.waits.take_due(ms);

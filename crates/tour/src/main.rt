@@ -100,7 +100,7 @@ fn transmitted(adapter: Adapter, handle: u8, request: Request) -> Adapter {
     say_program(handle);
     say_number(b": transmit to ", (request.bytes[0] % 16) as u32);
     say_number(b", errno ", answer.errno);
-    say_number(b", number ", answer.number);
+    say_number(b", number ", answer.sequence);
     say(b"\n");
     answer.adapter
 }
@@ -145,7 +145,7 @@ fn came(adapter: Adapter, from: u8, to: u8, opcode: u8, third: u8) -> Adapter {
     bytes[0] = from % 16 * 16 + to % 16;
     bytes[1] = opcode;
     bytes[2] = third;
-    adapter.message(3, bytes).adapter
+    adapter.received(3, bytes).adapter
 }
 
 // A device answers the box.
@@ -183,7 +183,7 @@ fn received(adapter: Adapter, handle: u8) -> Adapter {
 fn passed(adapter: Adapter, ms: u32) -> Adapter {
     say_number(b"clock: milliseconds ", ms);
     say(b"\n");
-    adapter.time(ms).adapter
+    adapter.time_passed(ms).adapter
 }
 
 // The display tells all devices of a menu, three times.
@@ -273,7 +273,7 @@ fn refused(adapter: Adapter) -> Adapter {
 }
 
 fn monitoring(adapter: Adapter) -> Adapter {
-    let answer = adapter.mode(MONITOR, CEC_MODE_MONITOR);
+    let answer = adapter.set_mode(MONITOR, CEC_MODE_MONITOR);
     say_number(b"monitor: mode, errno ", answer.errno);
     say(b"\n");
     answer.adapter
@@ -319,7 +319,7 @@ fn reported(adapter: Adapter) -> Adapter {
     bytes[0] = AMPLIFIER * 16 + CEC_LOG_ADDR_BROADCAST;
     bytes[1] = CEC_MSG_REPORT_PHYSICAL_ADDR;
     bytes[2] = 0x20;
-    let answer = adapter.message(5, bytes);
+    let answer = adapter.received(5, bytes);
     looked_up(answer.adapter, AMPLIFIER);
     looked_up(answer.adapter, CEC_LOG_ADDR_BROADCAST);
     answer.adapter

@@ -7,7 +7,7 @@ use mathlib.Core.Path.{_≡_, refl}
 use native.Mathlib.Numerals.{add-one}
 use native.Mathlib.Omega.{arith}
 use lib.ListN.{length, length-append}
-use Rattle.rules.specs.Number.{candidate, firstFree, numberAfter}
+use Rattle.rules.specs.Number.{candidate, firstFree, sequenceAfter}
 use Rattle.rules.specs.Owed.{isTaken}
 use Rattle.transmission.specs.declared.Owed.{Owed}
 use Rattle.transmission.specs.declared.Transmission.{Transmission}
@@ -34,8 +34,8 @@ module _ (live : ℕ → Bool) (last : ℕ) where
 
 -- the search begins with as many tries as there are numbers
 pub search-start : (wire queue : List Transmission) (ws : List Wait) (last w q n : ℕ) → w ≡ length wire → q ≡ length queue → n ≡ length ws
-    → numberAfter (wire ++ queue) ws last ≡ firstFree (isTaken (wire ++ queue) ws) last (w + q + n - 0) 0
-unfolding numberAfter
+    → sequenceAfter (wire ++ queue) ws last ≡ firstFree (isTaken (wire ++ queue) ws) last (w + q + n - 0) 0
+unfolding sequenceAfter
 search-start wire queue ws last w q n a b c =
     let e : w + q + n - 0 ≡ length (wire ++ queue) + length ws = omega (arith, length-append wire queue) in
     rw e

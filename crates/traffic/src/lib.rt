@@ -1,7 +1,7 @@
 // What is on its way: the queue, the wire and the waits for replies.
 ghost use Prim.Native.Nat.{_≤_};
 ghost use mathlib.Core.Path.{_≡_};
-ghost use Rattle.rules.specs.Number.{candidate, numberAfter};
+ghost use Rattle.rules.specs.Number.{candidate, sequenceAfter};
 ghost use Rattle.rules.specs.Owed.{roomOwed, repliesWanted, isTaken};
 ghost use Rattle.waits.specs.Waits.{waitsOf};
 ghost use Rattle.traffic.specs.Traffic.{pendingOf};
@@ -11,10 +11,10 @@ use waits::Waits;
 use wire::Wire;
 
 // The number after another: 1 after the greatest.
-fn next_after(number: u32) -> u32
-    ensures { λ r. ⌜ r ≡ candidate number 0 ⌝ }
+fn next_after(last: u32) -> u32
+    ensures { λ r. ⌜ r ≡ candidate last 0 ⌝ }
 {
-    if number < 4294967295 { number + 1 } else { 1 }
+    if last < 4294967295 { last + 1 } else { 1 }
 }
 
 // What is owed to a handle: room for entries, and replies.
@@ -33,25 +33,25 @@ pub fn owed(queue: Queue, wire: Wire, waits: Waits, handle: u8) -> Owed
 }
 
 // Whether a number is queued, on the wire or waiting.
-fn is_live(queue: Queue, wire: Wire, waits: Waits, number: u32) -> bool
-    ensures { λ r. ⌜ r ≡ isTaken (pendingOf wire queue) (waitsOf waits) number ⌝ }
+fn is_live(queue: Queue, wire: Wire, waits: Waits, sequence: u32) -> bool
+    ensures { λ r. ⌜ r ≡ isTaken (pendingOf wire queue) (waitsOf waits) sequence ⌝ }
 {
-    wire.has_number(number) | queue.has_number(number) | waits.has_number(number)
+    wire.has_sequence(sequence) | queue.has_sequence(sequence) | waits.has_sequence(sequence)
 }
 
 // The number that a transmit is given, after the last one.
-pub fn next_number(queue: Queue, wire: Wire, waits: Waits, last: u32) -> u32
-    ensures { λ r. ⌜ r ≡ numberAfter (pendingOf wire queue) (waitsOf waits) last ⌝ }
+pub fn next_sequence(queue: Queue, wire: Wire, waits: Waits, last: u32) -> u32
+    ensures { λ r. ⌜ r ≡ sequenceAfter (pendingOf wire queue) (waitsOf waits) last ⌝ }
 {
     let tries = wire.count() + queue.count() + waits.count();
-    let mut number = next_after(last);
+    let mut sequence = next_after(last);
     let mut i = 0;
     while i < tries {
-        if !is_live(queue, wire, waits, number) {
-            return number;
+        if !is_live(queue, wire, waits, sequence) {
+            return sequence;
         }
-        number = next_after(number);
+        sequence = next_after(sequence);
         i += 1;
     }
-    number
+    sequence
 }

@@ -18,7 +18,7 @@ noOwner = 255
 
 -- "without owner or reply, number 0": what the core sends, and what a close leaves of a handle's transmission
 abbrev pub ownerless : Message → Transmission
-ownerless m = record { number = 0; owner = noOwner; «wants_reply» = false; reply = 0; timeout = 0; «to_followers» = false; message = m }
+ownerless m = record { sequence = 0; owner = noOwner; «wants_reply» = false; reply = 0; timeout = 0; «to_followers» = false; message = m }
 
 -- where there is none: an empty message
 abbrev pub noTransmission : Transmission
@@ -42,7 +42,7 @@ owedFor h t = record { room = roomFor h t; replies = replyFor h t }
 
 -- whether it has this number
 abbrev pub numbered : ℕ → Transmission → Bool
-numbered n t = eqb (t .number) n
+numbered n t = eqb (t .sequence) n
 
 -- Of a list of transmissions: the head, or none.
 abbrev pub headOf : List Transmission → Transmission

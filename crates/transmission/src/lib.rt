@@ -9,7 +9,7 @@ pub const NO_OWNER: u8 = 255;
 
 #[repr(C)]
 pub struct Transmission {
-    pub number: u32,
+    pub sequence: u32,
     pub owner: u8,
     pub wants_reply: bool,
     pub reply: u8,
@@ -30,7 +30,7 @@ impl Transmission {
         ensures { λ r. ⌜ r ≡ ownerless message ⌝ }
     {
         Transmission {
-            number: 0,
+            sequence: 0,
             owner: NO_OWNER,
             wants_reply: false,
             reply: 0,

@@ -7,8 +7,8 @@ use Rattle.rules.specs.Call.{Outcome, finish, accepted}
 use Rattle.transmit.specs.declared.Transmitted.{Transmitted}
 
 abbrev pub transmittedOf : Transmitted → Outcome
-transmittedOf r = finish (orRefused (r .errno) (accepted (r .number) (r .«tx_status»))) (stateOf (r .parts))
+transmittedOf r = finish (orRefused (r .errno) (accepted (r .sequence) (r .«tx_status»))) (stateOf (r .parts))
 
 -- "A refusal returns its number and no other content; nothing changes": the whole answer
 abbrev pub refusedTransmit : Parts → ℕ → Transmitted
-refusedTransmit p errno = record { parts = p; errno = errno; number = 0; «tx_status» = 0 }
+refusedTransmit p errno = record { parts = p; errno = errno; sequence = 0; «tx_status» = 0 }

@@ -1,4 +1,4 @@
-// Transmit.
+// A message to send: the checks in their order, and the queue.
 ghost use Prim.Native.Nat.{_≤_};
 ghost use mathlib.Core.Logic.{_≢_};
 ghost use mathlib.Core.Path.{_≡_};
@@ -26,7 +26,7 @@ use transmission::Transmission;
 pub struct Transmitted {
     pub parts: Parts,
     pub errno: u32,
-    pub number: u32,
+    pub sequence: u32,
     pub tx_status: u8,
 }
 
@@ -76,7 +76,7 @@ fn sender_errno(parts: Parts, handle: u8) -> u32
     if initiator_part(own.mode) == CEC_MODE_NO_INITIATOR {
         return EPERM;
     }
-    if handles.roles(handle).exclusive_initiator {
+    if handles.roles_of_others(handle).exclusive_initiator {
         return EBUSY;
     }
     0
@@ -123,11 +123,11 @@ fn transmit_errno(parts: Parts, handle: u8, request: Request) -> u32
     0
 }
 
-fn transmission(number: u32, handle: u8, request: Request) -> Transmission
-    ensures { λ r. ⌜ r ≡ transmissionOf number handle (requestOf request) ⌝ }
+fn transmission(sequence: u32, handle: u8, request: Request) -> Transmission
+    ensures { λ r. ⌜ r ≡ transmissionOf sequence handle (requestOf request) ⌝ }
 {
     Transmission {
-        number: number,
+        sequence: sequence,
         owner: handle,
         wants_reply: request.wants_reply(),
         reply: request.reply,
@@ -142,21 +142,21 @@ pub fn transmit(mut parts: Parts, handle: u8, request: Request) -> Transmitted
     ensures { λ r. ⌜ (r .errno ≢ 0 → r ≡ refusedTransmit parts (r .errno)) ⌝ }
 {
     let errno = transmit_errno(parts, handle, request);
-    let mut number = 0;
+    let mut sequence = 0;
     let mut tx_status = 0;
     if errno == 0 {
-        number = traffic::next_number(parts.queue, parts.wire, parts.waits, parts.last);
-        parts.last = number;
+        sequence = traffic::next_sequence(parts.queue, parts.wire, parts.waits, parts.last);
+        parts.last = sequence;
         if is_self_poll(parts, request) {
             tx_status = CEC_TX_STATUS_NACK;
         } else {
-            parts.queue = parts.queue.put(transmission(number, handle, request));
+            parts.queue = parts.queue.put(transmission(sequence, handle, request));
         }
     }
     Transmitted {
         parts: parts,
         errno: errno,
-        number: number,
+        sequence: sequence,
         tx_status: tx_status,
     }
 }

@@ -6,14 +6,14 @@ use mathlib.Core.Logic.{_≢_}
 use mathlib.Core.Path.{_≡_, refl, sym}
 use native.Mathlib.Omega.{arith}
 use lib.ListN.{length}
-use Rattle.unconfigure.specs.Aborted.{abortedResult, abortedReply, transmitsAborted, waitsAborted}
+use Rattle.unconfigure.specs.Aborted.{transmitsAborted, waitsAborted}
 use Rattle.entry.specs.declared.Entry.{Entry}
 use Rattle.inbox.specs.Inboxes.{delivered}
 use Rattle.rules.proofs.Deliveries.{each-delivers}
 use Rattle.rules.specs.Deliver.{each}
 use Rattle.rules.specs.Owed.{pending}
-use Rattle.rules.specs.State.{State, noSettings, noneNoted, withInboxes}
-use Rattle.rules.specs.Unconfigure.{abortTransmit, abortWait, unset}
+use Rattle.rules.specs.State.{State, noSettings, noneNoted, withInboxes, withQueue, withWire, withWaits, withSettings, withNoted}
+use Rattle.rules.specs.Unconfigure.{abortTransmit, abortWait, unset, abortedResult, abortEntry}
 use Rattle.settings.specs.declared.Settings.{Settings}
 use Rattle.transmission.specs.Transmission.{headOf}
 use Rattle.transmission.specs.declared.Transmission.{Transmission}
@@ -39,9 +39,9 @@ pub unconfigured : (s u : State) (is : List (List Entry)) (queue wire : List Tra
     → settings ≡ noSettings
     → noted ≡ noneNoted
     → _≡_ {A = State}
-    (record { capabilities = u .capabilities; handles = u .handles; inboxes = u .inboxes; queue = queue; wire = wire; waits = waits; last = u .last; settings = settings; noted = noted })
+    (withQueue (withWire (withWaits (withSettings (withNoted u noted) settings) waits) wire) queue)
     (each abortWait (each abortTransmit (unset s) (pending s)) (s .waits))
 unconfigured s u is queue wire waits settings noted p a b c d e f =
     let sent = each-delivers (λ t. t .owner) abortedResult (unset s) (pending s) in
-    let waited = each-delivers (λ w. w .owner) abortedReply (withInboxes (unset s) (transmitsAborted (s .inboxes) (pending s))) (s .waits) in
+    let waited = each-delivers (λ w. w .owner) abortEntry (withInboxes (unset s) (transmitsAborted (s .inboxes) (pending s))) (s .waits) in
     rw (p, a, b, c, d, e, f, sent) (sym waited)

@@ -1,10 +1,10 @@
-// Unconfigure.
+// The adapter without an address. The inboxes are taken out of the parts for the entries, and put back once.
 ghost use mathlib.Core.Path.{_≡_};
-ghost use Rattle.unconfigure.specs.Aborted.{abortedResult, abortedReply, transmitsAborted, waitsAborted};
+ghost use Rattle.unconfigure.specs.Aborted.{transmitsAborted, waitsAborted};
 ghost use Rattle.inbox.specs.Inboxes.{inboxesOf, delivered};
 ghost use Rattle.parts.specs.Parts.{stateOf, doneOf};
 ghost use Rattle.queue.specs.Queue.{queueOf};
-ghost use Rattle.rules.specs.Unconfigure.{doUnconfigure};
+ghost use Rattle.rules.specs.Unconfigure.{abortedResult, abortEntry, doUnconfigure};
 ghost use Rattle.traffic.specs.Traffic.{pendingOf};
 ghost use Rattle.waits.specs.Waits.{waitsOf};
 ghost use Rattle.wire.specs.Wire.{wireOf};
@@ -29,7 +29,7 @@ fn abort_transmit(inboxes: Inboxes, sent: Transmission) -> Inboxes
     inboxes.put(
         sent.owner,
         Entry::result(
-            sent.number,
+            sent.sequence,
             CEC_TX_STATUS_ABORTED,
             Counts::none(),
             sent.message,
@@ -37,7 +37,6 @@ fn abort_transmit(inboxes: Inboxes, sent: Transmission) -> Inboxes
     )
 }
 
-// The wire ends.
 fn abort_wire(inboxes: Inboxes, wire: Wire) -> Inboxes
     ensures { λ r. ⌜ inboxesOf r ≡ transmitsAborted (inboxesOf inboxes) (wireOf wire) ⌝ }
 {
@@ -63,9 +62,9 @@ fn abort_queue(inboxes: Inboxes, queue: Queue) -> Inboxes
 
 // The reply entry of a wait that ends: its number, rx_status 0x08, and the sent length and bytes.
 fn abort_wait(inboxes: Inboxes, wait: Wait) -> Inboxes
-    ensures { λ r. ⌜ inboxesOf r ≡ delivered (inboxesOf inboxes) (wait .owner) (abortedReply wait) ⌝ }
+    ensures { λ r. ⌜ inboxesOf r ≡ delivered (inboxesOf inboxes) (wait .owner) (abortEntry wait) ⌝ }
 {
-    inboxes.put(wait.owner, Entry::aborted(wait.number, wait.sent))
+    inboxes.put(wait.owner, Entry::aborted(wait.sequence, wait.sent))
 }
 
 // The waits end, oldest first.

@@ -8,17 +8,14 @@ use Rattle.message.specs.Reply.{isReply}
 use Rattle.message.specs.declared.Message.{Message}
 use Rattle.wait.specs.declared.Wait.{Wait}
 
--- where there is none
 abbrev pub noWait : Wait
-noWait = record { owner = 0; number = 0; left = 0; reply = 0; «to_followers» = false; sent = noMessage }
+noWait = record { owner = 0; sequence = 0; left = 0; reply = 0; «to_followers» = false; sent = noMessage }
 
--- whether it is of handle h
 abbrev pub ownedBy : ℕ → Wait → Bool
 ownedBy h w = eqb (w .owner) h
 
--- whether it has this number
 abbrev pub numbered : ℕ → Wait → Bool
-numbered n w = eqb (w .number) n
+numbered n w = eqb (w .sequence) n
 
 -- whether the message ends it: document 01's "A match"
 abbrev pub answeredBy : Message → Wait → Bool
@@ -30,4 +27,4 @@ leftOf w = w .left
 
 -- with its time left reduced
 abbrev pub reduced : ℕ → Wait → Wait
-reduced ms w = record { owner = w .owner; number = w .number; left = w .left - ms; reply = w .reply; «to_followers» = w .«to_followers»; sent = w .sent }
+reduced ms w = record { owner = w .owner; sequence = w .sequence; left = w .left - ms; reply = w .reply; «to_followers» = w .«to_followers»; sent = w .sent }

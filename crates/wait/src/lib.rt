@@ -8,7 +8,7 @@ use message::Message;
 #[repr(C)]
 pub struct Wait {
     pub owner: u8,
-    pub number: u32,
+    pub sequence: u32,
     pub left: u32,
     pub reply: u8,
     pub to_followers: bool,
@@ -16,13 +16,12 @@ pub struct Wait {
 }
 
 impl Wait {
-    // Where there is none.
     pub fn none() -> Wait
         ensures { λ r. ⌜ r ≡ noWait ⌝ }
     {
         Wait {
             owner: 0,
-            number: 0,
+            sequence: 0,
             left: 0,
             reply: 0,
             to_followers: false,

@@ -14,10 +14,9 @@ use Rattle.waits.proofs.Waits as the
 pub waits-long : (w : Waits) (vs : List Val) → Is the.the-row w vs → length (w .slots) ≡ 32
 waits-long w vs p = unmapped _ (w .slots) 32 (p .1 .1 .0 .1 .0 .1)
 
--- the waits with other slots
 abbrev pub withSlots : Waits → List Wait → Waits
 withSlots w l = record { slots = l; count = w .count }
 
 -- what stands past the end of an array
 abbrev pub zeroWait : Wait
-zeroWait = record { owner = 0; number = 0; left = 0; reply = 0; «to_followers» = false; sent = record { length = 0; bytes = [] } }
+zeroWait = record { owner = 0; sequence = 0; left = 0; reply = 0; «to_followers» = false; sent = record { length = 0; bytes = [] } }

@@ -37,7 +37,7 @@ impl Waits {
         }
     }
 
-    // With no waits.
+    // What is past the count is not read, so the slots stay.
     pub fn emptied(mut self) -> Waits
         ensures { λ r. ⌜ waitsOf r ≡ [] ⌝ }
     {
@@ -49,8 +49,7 @@ impl Waits {
         ensures { λ r. ⌜ r ≡ length (waitsOf self) ⌝ }
         ensures { λ r. ⌜ r ≤ 32 ⌝ }
     {
-        let n = self.count;
-        if n < 32 { n } else { 32 }
+        lists::at_most(self.count, 32)
     }
 
     // The wait at a place, or none.
@@ -75,7 +74,6 @@ impl Waits {
         self
     }
 
-    // Without those of the handle.
     pub fn without_handle(mut self, handle: u8) -> Waits
         ensures { λ r. ⌜ waitsOf r ≡ withoutHandle handle (waitsOf self) ⌝ }
     {
@@ -92,7 +90,6 @@ impl Waits {
         self
     }
 
-    // Without the one at a place.
     pub fn without(mut self, at: usize) -> Waits
         ensures { λ r. ⌜ waitsOf r ≡ without at (waitsOf self) ⌝ }
     {
@@ -109,7 +106,6 @@ impl Waits {
         self
     }
 
-    // The wait at a place taken out.
     fn take_at(self, at: usize) -> Ended
         ensures { λ r. ⌜ takenOf r ≡ takenAt at (waitsOf self) ⌝ }
     {
@@ -198,29 +194,27 @@ impl Waits {
         self
     }
 
-    // How many are the handle's.
     pub fn count_of(self, handle: u8) -> usize
         ensures { λ r. ⌜ r ≡ count (ownedBy handle) (waitsOf self) ⌝ }
         ensures { λ r. ⌜ r ≤ 32 ⌝ }
     {
         let n = self.count();
-        let mut of = 0;
+        let mut owned = 0;
         let mut i = 0;
         while i < n {
-            of += self.slots[i].owned_by(handle);
+            owned += self.slots[i].owned_by(handle);
             i += 1;
         }
-        of
+        owned
     }
 
-    // Whether a number is waiting.
-    pub fn has_number(self, number: u32) -> bool
-        ensures { λ r. ⌜ r ≡ any (numbered number) (waitsOf self) ⌝ }
+    pub fn has_sequence(self, sequence: u32) -> bool
+        ensures { λ r. ⌜ r ≡ any (numbered sequence) (waitsOf self) ⌝ }
     {
         let n = self.count();
         let mut i = 0;
         while i < n {
-            if self.slots[i].number == number {
+            if self.slots[i].sequence == sequence {
                 return true;
             }
             i += 1;

@@ -5,9 +5,8 @@ ghost use mathlib.Core.List.{[], map};
 ghost use lib.ListN.{length, drop};
 ghost use Rattle.lists.specs.Sums.{any};
 ghost use Rattle.lists.specs.Vector.{put};
-ghost use Rattle.transmission.specs.Transmission.{orphaned, numbered};
+ghost use Rattle.transmission.specs.Transmission.{headOf, owedBy, numbered, orphaned};
 ghost use Rattle.wire.specs.Wire.{wireOf};
-ghost use Rattle.transmission.specs.Transmission.{headOf, owedBy};
 use transmission::Owed;
 use transmission::Transmission;
 
@@ -57,7 +56,6 @@ impl Wire {
         }
     }
 
-    // The transmission taken off.
     pub fn without_head(mut self) -> Wire
         ensures { λ r. ⌜ wireOf r ≡ drop 1 (wireOf self) ⌝ }
     {
@@ -65,7 +63,6 @@ impl Wire {
         self
     }
 
-    // What is owed to a handle.
     pub fn owed(self, handle: u8) -> Owed
         ensures { λ r. ⌜ r ≡ owedBy handle (wireOf self) ⌝ }
         ensures { λ r. ⌜ r .room ≤ 2 ⌝ }
@@ -81,11 +78,10 @@ impl Wire {
         }
     }
 
-    // Whether a number is on the wire.
-    pub fn has_number(self, number: u32) -> bool
-        ensures { λ r. ⌜ r ≡ any (numbered number) (wireOf self) ⌝ }
+    pub fn has_sequence(self, sequence: u32) -> bool
+        ensures { λ r. ⌜ r ≡ any (numbered sequence) (wireOf self) ⌝ }
     {
-        self.busy & (self.slot.number == number)
+        self.busy & (self.slot.sequence == sequence)
     }
 
     // What a close of the handle leaves.

@@ -1,18 +1,22 @@
 -- `bus_result::bus_result` meets its contract. Assumes nothing.
+use mathlib.Core.List.{List}
 use mathlib.Core.Logic.{⊎-elim}
-use mathlib.Core.Path.{_≡_, refl, ap, _∙_}
-use lib.ListN.{length}
-use Rattle.bus_result.proofs.Concluded.{begun-taken, begun-left, watched, told, watched-some, watched-none, entry-within, entry-stored, entry-left, concluded-parts}
-use Rattle.entry.specs.Entry.{result}
-use Rattle.parts.proofs.Arrays.{counts-long, entries-long}
+use mathlib.Core.Path.{_≡_, refl, ap, ap₂, _∙_}
+use lib.ListN.{drop}
+use borrow.Author.Needs.{needs}
+use Rattle.bus_result.proofs.Concluded.{begun-taken, begun-left, concluded-parts, resultFor, watched, watched-none, watched-some}
+use Rattle.entry.specs.declared.Counts.{Counts}
+use Rattle.entry.specs.declared.Entry.{Entry}
+use Rattle.inbox.proofs.Arrays.{room-within}
+use Rattle.parts.proofs.Arrays.{Delivered, LongParts, leaves, parts-long, stores}
 use Rattle.parts.proofs.Outcomes.{refused-outcome, taken-outcome}
-use Rattle.parts.specs.Parts.{stateOf}
-use Rattle.parts.specs.declared.Parts.{Parts}
-use Rattle.rules.specs.BusResult.{doBusResult}
+use Rattle.parts.specs.Parts.{orRefused, stateOf}
+use Rattle.rules.specs.BusResult.{begun, concluded, doBusResult}
 use Rattle.rules.specs.Call.{Answer, finish}
 use Rattle.rules.specs.Deliver.{deliver}
-use Rattle.rules.specs.State.{State, withInboxes}
-use borrow.Author.Needs.{needs}
+use Rattle.rules.specs.State.{State, withWaits, withWire}
+use Rattle.transmission.specs.declared.Transmission.{Transmission}
+use Rattle.wait.specs.declared.Wait.{Wait}
 use Rattle.bus_result.proofs.bus_result.Statement.{statement}
 use Rattle.bus_result.proofs.bus_result.Tie as tie
 
@@ -53,7 +57,7 @@ mul-t26 : tie.Need-mul-t26
 mul-t26 c = search needs
 
 element-set-from-parts : tie.Need-element-set-from-parts
-element-set-from-parts c = entry-within _ _ (c .before .if3 .taken) .1
+element-set-from-parts c = room-within _ _ (c .before .if3 .taken) .2
 
 add-parts : tie.Need-add-parts
 add-parts c = search needs
@@ -62,7 +66,7 @@ mul-parts : tie.Need-mul-parts
 mul-parts c = search needs
 
 element-write-parts : tie.Need-element-write-parts
-element-write-parts c = entry-within _ (c .before .before .before .count-at .result) (c .before .if3 .taken) .0
+element-write-parts c = room-within _ (c .before .before .before .count-at .result) (c .before .if3 .taken) .0
 
 without-head-requires : tie.Need-without-head-requires
 without-head-requires c κs = search needs
@@ -76,69 +80,84 @@ wait-for-requires c κs = search needs
 put-requires : tie.Need-put-requires
 put-requires c κs = search needs
 
--- once the monitors have their copies
-copied : (c : tie.Joined2) → (length (c .if2 .parts .counts) ≡ 8) × (length (c .if2 .parts .entries) ≡ 128) × (stateOf (c .if2 .parts) ≡ watched (stateOf (c .before .before .before .before .before .before .before .before .before .args .t1)) (c .before .before .before .before .before .head .result) (c .before .before .before .before .before .before .before .before .before .args .status) (c .before .before .before .kept-counts .result))
-copied c =
-    let a = c .before .before .before .before .before .before .before .before .before .args in
-    let p = a .t1 in
-    let g = c .before .before .before .before .before .before .before .before .before .good .0 in
-    let t = c .before .before .before .before .before .head .result in
-    let kept = c .before .before .before .kept-counts .result in
-    ⊎-elim
-    (λ w. (
-      ap (λ (x : Parts). length (x .counts)) (w .3) ∙ counts-long (w .2 .result) _ (w .2 .ok),
-      ap (λ (x : Parts). length (x .entries)) (w .3) ∙ entries-long (w .2 .result) _ (w .2 .ok),
-      ap stateOf (w .3) ∙ watched-some (stateOf p) _ t (a .status) kept _ (w .1 .ensures) (w .2 .ensures .0),
-    ))
-    (λ w. (
-      ap (λ (x : Parts). length (x .counts)) (w .1) ∙ counts-long p _ g,
-      ap (λ (x : Parts). length (x .entries)) (w .1) ∙ entries-long p _ g,
-      ap stateOf (w .1) ∙ watched-none (stateOf p) t (a .status) kept _ (c .before .has .ensures) (w .0 .left),
-    ))
-    (c .if2 .came)
+-- the places where the call begins, has its number, the transmission and its counts, from the one where the monitors have their copies
+module _ (c : tie.Joined2) where
+  abbrev keeps : tie.After-kept-counts
+  keeps = c .before .before .before
 
--- once the owner has its entry
-owned : (c : tie.Joined3) → stateOf (c .if3 .parts) ≡ told (stateOf (c .before .before .before .before .before .before .before .before .before .before .before .before .before .args .t1)) (c .before .before .before .before .before .before .before .before .before .head .result) (c .before .before .before .before .before .before .before .before .before .before .before .before .before .args .status) (c .before .before .before .before .before .before .before .kept-counts .result)
-owned c =
-    let t = c .before .before .before .before .before .before .before .before .before .head .result in
-    let kept = c .before .before .before .before .before .before .before .kept-counts .result in
-    let e = result (t .number) (c .before .before .before .before .before .before .before .before .before .before .before .before .before .args .status) kept (t .message) in
-    let j = c .before .before .before .before in
-    let p = j .if2 .parts in
-    let f = copied j in
-    let n = c .before .before .count-at in
-    let here : stateOf (c .if3 .parts) ≡ deliver (stateOf p) (t .owner) e =
-    ⊎-elim
-    (λ w. ap stateOf (w .2) ∙ ap (withInboxes (stateOf p)) (rw (w .1 .ensures) (entry-stored (p .counts) (p .entries) (f .0) (f .1) (t .owner) (n .result) e (n .ensures .0) (w .0 .taken))))
-    (λ w. ap stateOf (w .1) ∙ ap (withInboxes (stateOf p)) (entry-left (p .counts) (p .entries) (f .0) (f .1) (t .owner) (n .result) e (n .ensures .0) (w .0 .left)))
-    (c .if3 .came) in
-    here ∙ ap (λ (s : State). deliver s (t .owner) e) (f .2)
+  abbrev finds : tie.After-head
+  finds = keeps .before .before
+
+  abbrev accepted : tie.Then1
+  accepted = finds .before .before
+
+  abbrev start : tie.Start
+  start = accepted .before .before
+
+  abbrev sent : Transmission
+  sent = finds .head .result
+
+  -- the monitors have their copies
+  abbrev seen : State
+  seen = watched (stateOf (start .args .t1)) sent (start .args .status) (keeps .kept-counts .result)
+
+  abbrev answer : Entry
+  answer = resultFor (stateOf (start .args .t1)) sent (start .args .status) (keeps .kept-counts .result)
+
+  copied : LongParts (c .if2 .parts) × (stateOf (c .if2 .parts) ≡ seen)
+  copied =
+      let p = start .args .t1 in
+      let n = start .args .status in
+      let k = keeps .kept-counts .result in
+      ⊎-elim
+      (λ w. (rw (w .3) (parts-long (w .2 .result) _ (w .2 .ok)), ap stateOf (w .3) ∙ watched-some (stateOf p) sent n k _ _ (w .1 .ensures) (w .2 .ensures .0)))
+      (λ w. (rw (w .1) (parts-long p _ (start .good .0)), ap stateOf (w .1) ∙ watched-none (stateOf p) sent n k _ (c .before .has .ensures) (w .0 .left)))
+      (c .if2 .came)
+
+module _ (c : tie.Joined3) where
+  abbrev watching : tie.Joined2
+  watching = c .before .before .before .before
+
+  -- the owner has its entry
+  told : Delivered (watching .if2 .parts) (sent watching .owner) (answer watching) (c .if3 .parts)
+  told =
+      let n = c .before .before .count-at in
+      ⊎-elim
+      (λ w. stores (watching .if2 .parts) (copied watching .0) (sent watching .owner) (n .result) (n .ensures .0) _ (c .if3 .parts) _ (w .0 .taken) (w .1 .ensures) (w .2))
+      (λ w. leaves (watching .if2 .parts) (copied watching .0) (sent watching .owner) (n .result) (n .ensures .0) _ (c .if3 .parts) (w .0 .left) (w .1))
+      (c .if3 .came)
+
+  -- the call's end, with the wire and the waits that follow
+  ends : (wire : List Transmission) (waits : List Wait) → let a = start watching .args in
+      wire ≡ drop 1 (stateOf (c .if3 .parts) .wire)
+      → waits ≡ begun (a .status) (sent watching) (stateOf (c .if3 .parts) .waits)
+      → finish (orRefused (accepted watching .before .bus-result-errno .result) Answer.done) (withWaits (withWire (stateOf (c .if3 .parts)) wire) waits)
+      ≡ doBusResult (stateOf (a .t1)) (a .status) (a .counts)
+  unfolding doBusResult
+  ends wire waits q r =
+      let a = start watching .args in
+      let s = stateOf (a .t1) in
+      let both = told .state ∙ ap (λ (x : State). deliver x (sent watching .owner) (answer watching)) (copied watching .1) in
+      let all = concluded-parts s (sent watching) (a .status) (keeps watching .kept-counts .result) (stateOf (c .if3 .parts)) wire waits both q r in
+      taken-outcome s _ _ _ _ _ (accepted watching .before .bus-result-errno .ensures) (accepted watching .if1 .taken)
+      (ap (finish Answer.done) (all ∙ ap₂ (λ (t : Transmission) (k : Counts). concluded s t (a .status) k) (finds watching .head .ensures) (keeps watching .kept-counts .ensures)))
 
 returns : tie.Need-returns
-unfolding doBusResult
 returns c =
-    let j = c .before .before .before .before .before .before .before .before in
-    let a = j .before .before .before .before .before .before .before .before .before .before .before .before .before .args in
-    let s = stateOf (a .t1) in
-    let t = j .before .before .before .before .before .before .before .before .before .head .result in
-    let errno = j .before .before .before .before .before .before .before .before .before .before .before .before .bus-result-errno in
-    let taken = j .before .before .before .before .before .before .before .before .before .before .before .if1 .taken in
-    let begins = c .put .ensures ∙ begun-taken (a .status) t (stateOf (j .if3 .parts) .waits) _ _ (c .before .before .before .before .before .is-ok .ensures) (c .before .before .before .if4 .taken) (c .before .wait-for .ensures) in
-    let ends = concluded-parts s t (a .status) (j .before .before .before .before .before .before .before .kept-counts .result) (stateOf (j .if3 .parts)) _ _ (owned j) (c .before .before .before .before .before .before .without-head .ensures) begins in
-    (taken-outcome s _ _ _ _ _ (errno .ensures) taken (ap (finish Answer.done) (ends ∙ rw (j .before .before .before .before .before .before .before .before .before .head .ensures, j .before .before .before .before .before .before .before .kept-counts .ensures))), λ z. absurd (z taken))
+    let asks = c .before .before .before in
+    let rest = asks .before .before in
+    let j = rest .before .before .before in
+    let w = watching j in
+    let waits = begun-taken (start w .args .status) (sent w) (stateOf (j .if3 .parts) .waits) _ (rest .is-ok .ensures) _ (asks .if4 .taken) (c .before .wait-for .ensures) in
+    (ends j _ _ (rest .before .without-head .ensures) (c .put .ensures ∙ waits), λ z. absurd (z (accepted w .if1 .taken)))
 
 returns-2 : tie.Need-returns-2
-unfolding doBusResult
 returns-2 c =
-    let j = c .before .before .before .before .before in
-    let a = j .before .before .before .before .before .before .before .before .before .before .before .before .before .args in
-    let s = stateOf (a .t1) in
-    let t = j .before .before .before .before .before .before .before .before .before .head .result in
-    let errno = j .before .before .before .before .before .before .before .before .before .before .before .before .bus-result-errno in
-    let taken = j .before .before .before .before .before .before .before .before .before .before .before .if1 .taken in
-    let begins = begun-left (a .status) t (stateOf (j .if3 .parts) .waits) _ (c .before .before .is-ok .ensures) (c .if4 .left) in
-    let ends = concluded-parts s t (a .status) (j .before .before .before .before .before .before .before .kept-counts .result) (stateOf (j .if3 .parts)) _ _ (owned j) (c .before .before .before .without-head .ensures) begins in
-    (taken-outcome s _ _ _ _ _ (errno .ensures) taken (ap (finish Answer.done) (ends ∙ rw (j .before .before .before .before .before .before .before .before .before .head .ensures, j .before .before .before .before .before .before .before .kept-counts .ensures))), λ z. absurd (z taken))
+    let rest = c .before .before in
+    let j = rest .before .before .before in
+    let w = watching j in
+    let waits = begun-left (start w .args .status) (sent w) (stateOf (j .if3 .parts) .waits) _ (rest .is-ok .ensures) (c .if4 .left) in
+    (ends j _ _ (rest .before .without-head .ensures) waits, λ z. absurd (z (accepted w .if1 .taken)))
 
 returns-3 : tie.Need-returns-3
 unfolding doBusResult

@@ -24,7 +24,16 @@ put-requires c κs = search needs
 
 returns : tie.Need-returns
 unfolding doBusStart
-returns c = (taken-outcome (stateOf (c .before .before .before .before .before .before .before .args .parts)) _ _ _ _ _ (c .before .before .before .before .before .before .bus-start-errno .ensures) (c .before .before .before .before .if1 .taken) (rw (c .before .put .ensures, c .before .before .without-head .ensures, c .before .before .before .head .ensures)), λ z. absurd (z (c .before .before .before .before .if1 .taken)))
+returns c =
+    let put = c .before in
+    let taken = put .before in
+    let head = taken .before in
+    let done = head .before in
+    let errno = done .before .before in (
+      taken-outcome (stateOf (errno .before .args .parts)) _ _ _ _ _ (errno .bus-start-errno .ensures) (done .if1 .taken)
+          (rw (put .put .ensures, taken .without-head .ensures, head .head .ensures)),
+      λ z. absurd (z (done .if1 .taken)),
+    )
 
 returns-2 : tie.Need-returns-2
 unfolding doBusStart

@@ -46,10 +46,21 @@ without-handle-requires c κs = search needs
 returns-2 : tie.Need-returns-2
 unfolding doClose
 returns-2 c =
-    let a = c .before .before .before .before .before .before .before .before .before .before .args in
+    let wire = c .before in
+    let queue = wire .before in
+    let handles = queue .before in
+    let shut = handles .before in
+    let emptied = shut .before in
+    let clear = emptied .before in
+    let passed = clear .before .before in
+    let a = passed .before .before .args in
     let s = stateOf (a .parts) in
-    let after = closed-parts s (stateOf (c .before .before .before .before .before .with-inboxes .result)) (a .handle) _ _ _ _ _ (c .before .before .before .before .before .with-inboxes .ensures) (c .before .before .before .before .before .before .clear .ensures ∙ ap (λ (x : Inboxes). cleared (inboxesOf x) (a .handle)) (c .before .before .before .before .before .before .before .inboxes .ensures)) (c .before .before .before .with .ensures ∙ ap (set (s .handles) (a .handle)) (c .before .before .before .before .closed .ensures)) (c .before .before .orphaned .ensures) (c .before .orphaned2 .ensures) (c .without-handle .ensures) in
-    (ap (finish Answer.done) after ∙ done-outcome s _ _ _ (c .before .before .before .before .before .before .before .before .before .close-errno .ensures) (c .before .before .before .before .before .before .before .before .if1 .left), λ z. absurd (z refl))
+    let inbox = clear .clear .ensures ∙ ap (λ (x : Inboxes). cleared (inboxesOf x) (a .handle)) (clear .before .inboxes .ensures) in
+    let handle = handles .with .ensures ∙ ap (set (s .handles) (a .handle)) (shut .closed .ensures) in
+    let after =
+    closed-parts s (stateOf (emptied .with-inboxes .result)) (a .handle) _ _ _ _ _ (emptied .with-inboxes .ensures) inbox handle
+    (queue .orphaned .ensures) (wire .orphaned2 .ensures) (c .without-handle .ensures) in
+    (ap (finish Answer.done) after ∙ done-outcome s _ _ _ (passed .before .close-errno .ensures) (passed .if1 .left), λ z. absurd (z refl))
 
 pub close-spec : {M : Type 1} → statement M
 close-spec =

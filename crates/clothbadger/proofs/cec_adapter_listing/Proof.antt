@@ -1,4 +1,5 @@
--- `clothbadger::cec_adapter_listing` meets its contract: a walk of its MIR, by hand, to the contract of `listing`: what it has on entry is what `listing` asks. What `listing` ensures then gives what is promised here, as a fact (`promised`).
+-- `clothbadger::cec_adapter_listing` meets its contract: a walk of its MIR, by hand, to the contract of `listing`: what it has on entry is what `listing` asks.
+-- What `listing` ensures then gives what is promised here, as a fact (`promised`).
 -- The slice is lent on for good, at the same lifetime, share and ghost name: the walk never opens the borrow.
 -- Assumes nothing.
 use Prim.Native.Nat.{ℕ}
@@ -72,24 +73,29 @@ module _ {M : Type 1} (𝓤 : URA M) (H : Heap 𝓤) (A : Atoms 𝓤) (W : Given
   module _ (is-ad : Is U.the-row ad (mach ∷ [])) (room : Room T.the-row (length (x .now))) (𝓣 : Tables 𝓤 H) (known : Triple 𝓤 (𝓣 .C listing-def.name) (Listing 𝓤 H A at-mem run)) where
     walk : ent 𝓤 (onEntry 𝓤 H A listing.signature (κ, tt) (q, tt) (ad, (x, tt)) (to .0 .4)) (WpFn 𝓤 H (𝓣 .C) (𝓣 .Λ) code.function (mach ∷ s ∷ []) (Listing 𝓤 H A at-mem run .post to))
     walk =
-        qed W (raw (onEntry 𝓤 H A listing.signature (κ, tt) (q, tt) (ad, (x, tt)) (to .0 .4)) ∷ []) ∵ nothing ! $ move ! (1 ∷ 0 ∷ []) $ join ! $ use1 W (raw (Listing 𝓤 H A at-mem run .pre to)) (id⊢ 𝓤 _) $
+        qed W (raw (onEntry 𝓤 H A listing.signature (κ, tt) (q, tt) (ad, (x, tt)) (to .0 .4)) ∷ []) ∵
+        nothing ! $ move ! (1 ∷ 0 ∷ []) $ join ! $ use1 W (raw (Listing 𝓤 H A at-mem run .pre to)) (id⊢ 𝓤 _) $
         enter ! (𝓣 .C) (𝓣 .Λ) code.function (mach ∷ s ∷ []) _ $ alloc1 ! (λ l₀. alloc1 ! (λ l₁. alloc1 ! (λ l₂. alloc1 ! (λ l₃. alloc1 ! (λ l₄. alloc0 ! $ params1 ! $
         pass1 ! (init ! 6 refl (LL.lawful U.the-type U′.the-laws 𝓤 H A W .typed ad _ is-ad .0)) $ pass1 ! (init ! 4 refl (tt, (tt, (record { fits = room .0 }, tt)))) $ pass0 ! $
         -- [_4; …; _3; …; _2; …; _1; …; room for _0; …; what `listing` asks]
         assigns ! (addr ! (from ! (fld ! refl (hop ! (look-in ! 4 (sub ! 0 refl (whole !))) (stop !))))) (from ! (stop !)) (init ! 2 refl (tt, tt)) $
-        assigns ! (agg ! (and-then ! (load ! (from ! (stop !)) (look ! 2 refl)) (and-then ! (load ! (from ! (fld ! refl (stop !))) (look-in ! 4 (sub ! 1 refl (whole !)))) (no-more !)))) (from ! (stop !)) (init ! 0 refl (tt, (tt, (record { fits = room .0 }, tt)))) $
-        move ! (10 ∷ []) $ calls-at ! (fmOf 𝓤 H (W .laws) 𝓣) (Listing 𝓤 H A at-mem run) known to (and-then ! (load ! (from ! (stop !)) (look ! 7 refl)) (and-then ! (load ! (from ! (stop !)) (look ! 1 refl)) (no-more !))) (λ w.
+        assigns ! (agg ! (and-then ! (load ! (from ! (stop !)) (look ! 2 refl)) (and-then ! (load ! (from ! (fld ! refl (stop !))) (look-in ! 4 (sub ! 1 refl (whole !)))) (no-more !))))
+        (from ! (stop !)) (init ! 0 refl (tt, (tt, (record { fits = room .0 }, tt)))) $
+        move ! (10 ∷ []) $ calls-at ! (fmOf 𝓤 H (W .laws) 𝓣) (Listing 𝓤 H A at-mem run) known to
+        (and-then ! (load ! (from ! (stop !)) (look ! 7 refl)) (and-then ! (load ! (from ! (stop !)) (look ! 1 refl)) (no-more !))) (λ w.
         use1 W (later (some (Left w))) (id⊢ 𝓤 _) $ await ! tt $ pick ! (λ r.
         split ! $ split ! $ move ! (1 ∷ []) $ peeks ! u32 (Is u32) (shows 𝓤 H A u32) r (w ∷ []) (λ is.
         -- [what the result owns; the token; what `listing` ensures; _4; …; _3; …; _2; …; _1; …; room for _0; …]
         land ! (from ! (stop !)) (init ! 11 refl (uint-lawful 𝓤 H A W w32 .typed r _ is .0)) $ returns ! (look ! 11 refl) $
-        forget ! 3 refl $ forget ! 5 refl $ forget ! 7 refl $ forget ! 9 refl $ forget ! 11 refl $ move ! (11 ∷ 12 ∷ []) $ free1 ! $ move ! (9 ∷ 10 ∷ []) $ free1 ! $ move ! (7 ∷ 8 ∷ []) $ free1 ! $ move ! (5 ∷ 6 ∷ []) $ free1 ! $ move ! (3 ∷ 4 ∷ []) $ free1 ! $ free0 ! $
+        forget ! 3 refl $ forget ! 5 refl $ forget ! 7 refl $ forget ! 9 refl $ forget ! 11 refl $
+        move ! (11 ∷ 12 ∷ 9 ∷ 10 ∷ 7 ∷ 8 ∷ 5 ∷ 6 ∷ 3 ∷ 4 ∷ []) $ free1 ! $ free1 ! $ free1 ! $ free1 ! $ free1 ! $ free0 ! $
         updating ! $ at-once ! $ show ! (λ (n : ℕ). mean 𝓤 H A (Left w n)) r $ move ! (1 ∷ 0 ∷ []) $ join ! $ done !))))))))
 
-meets : {M : Type 1} (𝓤 : URA M) (H : Heap 𝓤) (A : Atoms 𝓤) (W : Given 𝓤 H A) (at-mem : Memory → SProp 𝓤) (run : Routine → Fun 𝓤) (𝓣 : Tables 𝓤 H) → Triple 𝓤 (𝓣 .C listing-def.name) (Listing 𝓤 H A at-mem run)
-    → Triple 𝓤 (WpFn 𝓤 H (𝓣 .C) (𝓣 .Λ) code.function) (Listing 𝓤 H A at-mem run)
+meets : {M : Type 1} (𝓤 : URA M) (H : Heap 𝓤) (A : Atoms 𝓤) (W : Given 𝓤 H A) (at-mem : Memory → SProp 𝓤) (run : Routine → Fun 𝓤) (𝓣 : Tables 𝓤 H)
+    → Triple 𝓤 (𝓣 .C listing-def.name) (Listing 𝓤 H A at-mem run) → Triple 𝓤 (WpFn 𝓤 H (𝓣 .C) (𝓣 .Λ) code.function) (Listing 𝓤 H A at-mem run)
 meets 𝓤 H A W at-mem run 𝓣 known y =
-    via 𝓤 _ (fst∗ 𝓤 _ (emp 𝓤)) (said 𝓤 H A listing.signature (y .0 .0) (y .0 .1) (LL.vals U.the-type U′.the-laws, (slice-vals, tt)) (LL.tells U.the-type U′.the-laws, (mut-slice-tells (named 0) (y .0 .0 .0) T.the-row, tt)) (y .0 .3)
+    via 𝓤 _ (fst∗ 𝓤 _ (emp 𝓤)) (said 𝓤 H A listing.signature (y .0 .0) (y .0 .1) (LL.vals U.the-type U′.the-laws, (slice-vals, tt))
+    (LL.tells U.the-type U′.the-laws, (mut-slice-tells (named 0) (y .0 .0 .0) T.the-row, tt)) (y .0 .3)
     (λ vss. WpFn 𝓤 H (𝓣 .C) (𝓣 .Λ) code.function (flat (typesAt (listing.signature .params) (y .0 .0)) vss) (Listing 𝓤 H A at-mem run .post y)) (y .0 .4)
     (λ are. walk 𝓤 H A W at-mem run (y .0 .0 .0) (y .0 .1 .0) (y .0 .3 .0) (y .0 .3 .1 .0) (are .0) (are .1 .0 .0 .1) 𝓣 known))
 

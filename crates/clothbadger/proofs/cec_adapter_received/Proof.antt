@@ -9,11 +9,11 @@ length-requires c κs = search needs
 bytes-requires : tie.Need-bytes-requires
 bytes-requires c κs = search needs
 
-message-requires : tie.Need-message-requires
-message-requires c κs = search needs
+received-requires : tie.Need-received-requires
+received-requires c κs = search needs
 
 returns : tie.Need-returns
-returns c = rw (← c .before .before .length .ensures, ← c .before .bytes .ensures) (c .message .ensures)
+returns c = rw (← c .before .before .length .ensures, ← c .before .bytes .ensures) (c .received .ensures)
 
 pub cec-adapter-received-spec : {M : Type 1} → statement M
-cec-adapter-received-spec = tie.close (tie.spec length-requires bytes-requires message-requires returns)
+cec-adapter-received-spec = tie.close (tie.spec length-requires bytes-requires received-requires returns)

@@ -19,7 +19,9 @@ kept-settings-requires c κs = search needs
 
 returns-2 : tie.Need-returns-2
 unfolding doConfigure
-returns-2 c = (rw (c .kept-settings .ensures) (done-outcome (stateOf (c .before .before .before .args .parts)) _ _ _ (c .before .before .configure-errno .ensures) (c .before .if1 .left)), λ z. absurd (z refl))
+returns-2 c =
+    let errno = c .before .before in
+    (rw (c .kept-settings .ensures) (done-outcome (stateOf (errno .before .args .parts)) _ _ _ (errno .configure-errno .ensures) (c .before .if1 .left)), λ z. absurd (z refl))
 
 pub configure-spec : {M : Type 1} → statement M
 configure-spec =

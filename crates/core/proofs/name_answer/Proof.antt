@@ -51,8 +51,14 @@ array-read-t44 c = search needs
 array-read-new : tie.Need-array-read-new
 array-read-new c = search needs
 
-at-most-14-requires : tie.Need-at-most-14-requires
-at-most-14-requires c κs = search needs
+cast-at-most : tie.Need-cast-at-most
+cast-at-most c = search needs
+
+at-most-requires : tie.Need-at-most-requires
+at-most-requires c κs = search needs
+
+cast-new : tie.Need-cast-new
+cast-new c = search needs
 
 add-new : tie.Need-add-new
 add-new c = search needs
@@ -62,8 +68,10 @@ new-requires c κs = search needs
 
 returns : tie.Need-returns
 returns c =
-    let x = c .before .before .before .before .args .settings in
-    c .new .ensures ∙ rw (c .before .at-most-14 .ensures .0, c .before .before .to-initiator .ensures) (name-listed _ _ (x .«name_length») (x .name) (name-long x _ (c .before .before .before .before .good .0)))
+    let start = c .before .before .before .before .before in
+    let x = start .args .settings in
+    c .new .ensures
+    ∙ rw (c .before .at-most .ensures .0, c .before .before .before .to-initiator .ensures) (name-listed _ _ (x .«name_length») (x .name) (name-long x _ (start .good .0)))
 
 pub name-answer-spec : {M : Type 1} → statement M
 name-answer-spec =
@@ -84,7 +92,9 @@ name-answer-spec =
     array-read-t41
     array-read-t44
     array-read-new
-    at-most-14-requires
+    cast-at-most
+    at-most-requires
+    cast-new
     add-new
     new-requires
     returns)

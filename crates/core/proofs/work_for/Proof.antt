@@ -63,7 +63,12 @@ returns-6 : tie.Need-returns-6
 returns-6 c = rw (c .no-question .ensures, c .before .before .before .feature-abort .ensures, sym (c .before .before .opcode .ensures) ∙ c .before .match .keys6)
 
 returns-7 : tie.Need-returns-7
-returns-7 c = rw (c .no-question2 .ensures, c .before .before .before .feature-abort .ensures) (no-core-message (c .before .before .before .before .args .settings) (c .before .before .before .before .args .asked) _ (c .before .before .opcode .ensures) (c .before .match .rest .0 .0 .0 .0 .0 .1) (c .before .match .rest .0 .0 .0 .0 .1) (c .before .match .rest .0 .0 .0 .1) (c .before .match .rest .0 .0 .1) (c .before .match .rest .0 .1) (c .before .match .rest .1))
+returns-7 c =
+    let other = c .before .match .rest in
+    let asks = c .before .before in
+    let a = asks .before .before .args in
+    rw (c .no-question2 .ensures, asks .before .feature-abort .ensures)
+    (no-core-message (a .settings) (a .asked) _ (asks .opcode .ensures) (other .0 .0 .0 .0 .0 .1) (other .0 .0 .0 .0 .1) (other .0 .0 .0 .1) (other .0 .0 .1) (other .0 .1) (other .1))
 
 pub work-for-spec : {M : Type 1} → statement M
 work-for-spec =

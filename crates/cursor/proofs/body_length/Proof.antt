@@ -43,8 +43,10 @@ unfolding bodyLength
 returns-9 c = (sym (ap bodyLength (c .match .keys9)), omega arith)
 
 returns-10 : tie.Need-returns-10
-returns-10 c = let r = c .match .rest in
-    (sym (no-body (c .before .args .kind) (r .0 .0 .0 .0 .0 .0 .0 .0 .1) (r .0 .0 .0 .0 .0 .0 .0 .1) (r .0 .0 .0 .0 .0 .0 .1) (r .0 .0 .0 .0 .0 .1) (r .0 .0 .0 .0 .1) (r .0 .0 .0 .1) (r .0 .0 .1) (r .0 .1) (r .1)), omega arith)
+returns-10 c =
+    let r = c .match .rest in
+    let five = r .0 .0 .0 .0 in
+    (sym (no-body (c .before .args .kind) (five .0 .0 .0 .0 .1) (five .0 .0 .0 .1) (five .0 .0 .1) (five .0 .1) (five .1) (r .0 .0 .0 .1) (r .0 .0 .1) (r .0 .1) (r .1)), omega arith)
 
 pub body-length-spec : {M : Type 1} → statement M
 body-length-spec =

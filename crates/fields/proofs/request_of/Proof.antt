@@ -6,8 +6,8 @@ use Rattle.fields.proofs.request_of.Tie as tie
 array-read-t5 : tie.Need-array-read-t5
 array-read-t5 c = search needs
 
-bytes-at-3-requires : tie.Need-bytes-at-3-requires
-bytes-at-3-requires c κs = search needs
+request-bytes-requires : tie.Need-request-bytes-requires
+request-bytes-requires c κs = search needs
 
 array-read-t10 : tie.Need-array-read-t10
 array-read-t10 c = search needs
@@ -43,14 +43,14 @@ number-4-requires-2 : tie.Need-number-4-requires-2
 number-4-requires-2 c κs = search needs
 
 returns : tie.Need-returns
-returns c = rw (c .before .before .bytes-at-3 .ensures, c .before .number-4 .ensures, c .number-42 .ensures)
+returns c = rw (c .before .before .request-bytes .ensures, c .before .number-4 .ensures, c .number-42 .ensures)
 
 pub request-of-spec : {M : Type 1} → statement M
 request-of-spec =
     tie.close
     (tie.spec
     array-read-t5
-    bytes-at-3-requires
+    request-bytes-requires
     array-read-t10
     array-read-number-4
     array-read-number-4-2

@@ -1,4 +1,5 @@
--- `listing::listed_in` meets its contract: a walk of its MIR, by hand. The local array is lent as a `&mut [Row]` for a lifetime that is made for the call of `listing`, and taken back at the list that `listing` leaves.
+-- `listing::listed_in` meets its contract: a walk of its MIR, by hand.
+-- The local array is lent as a `&mut [Row]` for a lifetime that is made for the call of `listing`, and taken back at the list that `listing` leaves.
 -- The result is a struct that holds an array of rows: its relation is made of the array's (`rows-field`).
 -- Assumes nothing.
 use Prim.Native.Nat.{ℕ, _<_, _^_}
@@ -58,7 +59,8 @@ use prog.Memory.{Memory}
 use prog.Routine.{Routine}
 use prog.Wp.{Heap, Calls, Loops, WpFn, Tables}
 use sound.WpLaws.{FmC, fmOf, WpFn-mono}
-use types.Kit.{Given, ‵, raw, _⊛_, some, later, given, _$_, _∵_, !, qed, by, move, keep, drop, use1, use2, use3, split, join, pick, learn, rewrite, check, fsplit, fjoin, fpick, fpack, feqL, suffices, frame, await, done}
+use types.Kit.{Given, ‵, raw, _⊛_, some, later, given, _$_, _∵_, !, qed, by, move, keep, drop, use1, use2, use3, split, join}
+use types.Kit.{pick, learn, rewrite, check, fsplit, fjoin, fpick, fpack, feqL, suffices, frame, await, done}
 use types.Part.{agg}
 use types.Run.{look, init, forget, stop, from, load, lit, of-opd, addr, and-then, no-more, assigns, land, returns, enter, alloc1, alloc0, params1, pass1, pass0, free1, free0}
 use types.SemTy.{cells, Arr}
@@ -116,15 +118,19 @@ module _ {M : Type 1} (𝓤 : URA M) (H : Heap 𝓤) (A : Atoms 𝓤) (W : Given
   unfolding partOf
   rows-out l xs is =
       qed W (‵ (fat fullShare rowsTy l 0 (rows-val xs)) ∷ []) ∵ use1 W (‵ (cellAt fullShare (Rows .mir) (rows-val xs ∷ []) l 0)) (W .laws .at-raw fullShare rowsTy l 0 (rows-val xs)) $
-      owned ! Rows (Is Rows) rows-make xs (rows-val xs ∷ []) is $ move ! (1 ∷ 0 ∷ []) $ fjoin ! $ fpack ! (List Val) (λ us. fsep (cellAt fullShare (Rows .mir) us l 0) (Rows .own xs us)) (rows-val xs ∷ []) $
+      owned ! Rows (Is Rows) rows-make xs (rows-val xs ∷ []) is $ move ! (1 ∷ 0 ∷ []) $ fjoin ! $
+      fpack ! (List Val) (λ us. fsep (cellAt fullShare (Rows .mir) us l 0) (Rows .own xs us)) (rows-val xs ∷ []) $
       use1 W (‵ (arr-parts (shares T.the-row) N .part fullShare xs l 0)) (array-apart 𝓤 H A W T.the-row fullShare tt N xs l 0) $ fsplit ! $ drop ! $ by ! (whole-in 𝓤 H A W T.the-row xs l 0)
 
   rows-in : (l : ℕ) (xs : List Row) → ent 𝓤 (sem 𝓤 H A (Arr (mem T.the-row) N .lies xs l 0)) (guard 𝓤 (Is Rows xs (rows-val xs ∷ [])) (H .at fullShare rowsTy l 0 (rows-val xs)))
   unfolding partOf
   rows-in l xs =
-      qed W (‵ (Arr (mem T.the-row) N .lies xs l 0) ∷ []) ∵ fsplit ! $ move ! (1 ∷ 0 ∷ []) $ use1 W (‵ (row T.the-row fullShare xs l 0)) (whole-out 𝓤 H A W T.the-row xs l 0) $ move ! (1 ∷ 0 ∷ []) $ fjoin ! $
-      use1 W (‵ (partAt Rows fullShare xs l 0)) (array-whole 𝓤 H A W T.the-row fullShare N xs l 0) $ fpick ! (λ vs. fsplit ! $ move ! (1 ∷ []) $ peeks ! Rows (Is Rows) (shows 𝓤 H A Rows) xs vs (λ is. drop ! $
-      rewrite ! 0 (λ (us : List Val). ‵ (cellAt fullShare (Rows .mir) us l 0)) (told xs vs is) refl $ check ! (subst (Is Rows xs) (told xs vs is) is) $ by ! (W .laws .raw-at fullShare rowsTy l 0 (rows-val xs))))
+      qed W (‵ (Arr (mem T.the-row) N .lies xs l 0) ∷ []) ∵ fsplit ! $ move ! (1 ∷ 0 ∷ []) $
+      use1 W (‵ (row T.the-row fullShare xs l 0)) (whole-out 𝓤 H A W T.the-row xs l 0) $ move ! (1 ∷ 0 ∷ []) $ fjoin ! $
+      use1 W (‵ (partAt Rows fullShare xs l 0)) (array-whole 𝓤 H A W T.the-row fullShare N xs l 0) $
+      fpick ! (λ vs. fsplit ! $ move ! (1 ∷ []) $ peeks ! Rows (Is Rows) (shows 𝓤 H A Rows) xs vs (λ is. drop ! $
+      rewrite ! 0 (λ (us : List Val). ‵ (cellAt fullShare (Rows .mir) us l 0)) (told xs vs is) refl $
+      check ! (subst (Is Rows xs) (told xs vs is) is) $ by ! (W .laws .raw-at fullShare rowsTy l 0 (rows-val xs))))
     where
       told : (ys : List Row) (vs : List Val) → Is Rows ys vs → vs ≡ rows-val ys ∷ []
       told ys vs is = array-tells T.the-row (LL.vals T.the-type T′.the-laws) (LL.tells T.the-type T′.the-laws) N ys vs is
@@ -148,7 +154,8 @@ module _ {M : Type 1} (𝓤 : URA M) (H : Heap 𝓤) (A : Atoms 𝓤) (W : Given
   module _ (is-ad : Is U.the-row ad (mach ∷ [])) (is-rs : Is Rows rs (rows-val rs ∷ [])) where
     exits : (r : ℕ) (zs : List Row) → Says ad rs r zs → Is Out.the-row (out r zs) (out-val r zs ∷ []) → ent 𝓤 (emp 𝓤) (Post (out-val r zs))
     exits r zs e is =
-        qed W [] ∵ suffices ! _ (ends-at 𝓤 H A listed-in.ended stayed (listed-in.clauses 𝓤 H A at-mem run) W ((tt, tt, tt, a, vals), tt) (out-val r zs) (out r zs) (tt, (tt, tt)) (tt, (tt, tt))) $ says ! e $
+        qed W [] ∵
+        suffices ! _ (ends-at 𝓤 H A listed-in.ended stayed (listed-in.clauses 𝓤 H A at-mem run) W ((tt, tt, tt, a, vals), tt) (out-val r zs) (out r zs) (tt, (tt, tt)) (tt, (tt, tt))) $ says ! e $
         owned ! Out.the-row (Is Out.the-row) (LL.makes Out.the-type Out′.the-plain 𝓤 H A) (out r zs) _ is $ nothing ! $ owned ! Rows (Is Rows) (rows-make 𝓤 H A W) rs _ is-rs $ fjoin ! $
         owned ! U.the-row (Is U.the-row) (LL.makes U.the-type U′.the-plain 𝓤 H A) ad _ is-ad $ fjoin ! $ nothing ! $ done !
 
@@ -163,7 +170,8 @@ module _ {M : Type 1} (𝓤 : URA M) (H : Heap 𝓤) (A : Atoms 𝓤) (W : Given
     abbrev to-listing : ℕ → ℕ → GName → Listing 𝓤 H A at-mem run .Ghost
     to-listing l ν γ = (((ν ∷ [], tt), (fullShare, tt), tt, (ad, (x l γ, tt)), (mach ∷ [], (s l ∷ [], tt))), tt)
 
-    goes : (l ν : ℕ) (γ : GName) → ent 𝓤 (sep 𝓤 (A .lft (ν ∷ []) fullShare) (sem 𝓤 H A (MutSlice (named 0) (ν ∷ []) T.the-row .own (x l γ) (s l ∷ [])))) (Listing 𝓤 H A at-mem run .pre (to-listing l ν γ))
+    goes : (l ν : ℕ) (γ : GName) → ent 𝓤 (sep 𝓤 (A .lft (ν ∷ []) fullShare) (sem 𝓤 H A (MutSlice (named 0) (ν ∷ []) T.the-row .own (x l γ) (s l ∷ []))))
+        (Listing 𝓤 H A at-mem run .pre (to-listing l ν γ))
     goes l ν γ =
         qed W (‵ (flft (ν ∷ []) fullShare) ∷ ‵ (MutSlice (named 0) (ν ∷ []) T.the-row .own (x l γ) (s l ∷ [])) ∷ []) ∵ nothing ! $ move ! (1 ∷ 0 ∷ []) $ join ! $
         nothing ! $ move ! (2 ∷ 0 ∷ []) $ fjoin ! $ owned ! U.the-row (Is U.the-row) (LL.makes U.the-type U′.the-plain 𝓤 H A) ad _ is-ad $ fjoin ! $ move ! (1 ∷ 0 ∷ []) $ join ! $ frame ! $ done !
@@ -181,13 +189,17 @@ module _ {M : Type 1} (𝓤 : URA M) (H : Heap 𝓤) (A : Atoms 𝓤) (W : Given
           rewrite ! 2 (λ (m : ℕ). ‵ (fat fullShare (sliceTy (tyRef erased mut (pointee (T.the-row .written)))) l₆ 0 (sliceVal (l₃, 0) m))) (sym long) refl $
           -- the array is lent, for a lifetime ν of the call
           move ! (8 ∷ []) $ use1 W (‵ (cells (mem T.the-row) rs l₃ 0)) (rows-out 𝓤 H A W l₃ rs is-rs) $ lft-new ! tt (λ ν. move ! (1 ∷ []) $
-          use1 W (later (some (λ (γ : GName). ‵ (MutSlice (named 0) (ν ∷ []) T.the-row .own (x l₃ γ) (s l₃ ∷ [])) ⊛ ‵ (flent (ν ∷ []) (Held T.the-row (length rs) l₃ 0 γ))))) (lends-slice 𝓤 H A W T.the-row (named 0) (ν ∷ []) rs l₃ 0 room) $ await ! tt $ pick ! (λ γ. split ! $
+          use1 W (later (some (λ (γ : GName). ‵ (MutSlice (named 0) (ν ∷ []) T.the-row .own (x l₃ γ) (s l₃ ∷ [])) ⊛ ‵ (flent (ν ∷ []) (Held T.the-row (length rs) l₃ 0 γ)))))
+          (lends-slice 𝓤 H A W T.the-row (named 0) (ν ∷ []) rs l₃ 0 room) $ await ! tt $ pick ! (λ γ. split ! $
           move ! (2 ∷ 0 ∷ []) $ use2 W (raw (Listing 𝓤 H A at-mem run .pre (to-listing l₃ ν γ))) (goes l₃ ν γ) $
           -- [what `listing` asks; the lender's part; _7; …; _6; …; _5; …; _4; …; …; _2; …; _1; …; room for _0; …]
-          calls-at ! fm (Listing 𝓤 H A at-mem run) known (to-listing l₃ ν γ) (and-then ! (load ! (from ! (stop !)) (look ! 13 refl)) (and-then ! (load ! (from ! (stop !)) (look ! 4 refl)) (no-more !))) (λ w.
-          use1 W (later (some (λ (r : ℕ). ((‵ (flft (ν ∷ []) fullShare) ⊛ ‵ ftrue) ⊛ ‵ (u32 .own r (w ∷ []))) ⊛ raw (ensured 𝓤 H A listing.ended (listing.clauses 𝓤 H A at-mem run) (ν ∷ [], tt) (ad, (x l₃ γ, tt)) tt r)))) (id⊢ 𝓤 _) $ await ! tt $ pick ! (λ r.
+          calls-at ! fm (Listing 𝓤 H A at-mem run) known (to-listing l₃ ν γ)
+          (and-then ! (load ! (from ! (stop !)) (look ! 13 refl)) (and-then ! (load ! (from ! (stop !)) (look ! 4 refl)) (no-more !))) (λ w.
+          use1 W (later (some (λ (r : ℕ). ((‵ (flft (ν ∷ []) fullShare) ⊛ ‵ ftrue) ⊛ ‵ (u32 .own r (w ∷ []))) ⊛
+          raw (ensured 𝓤 H A listing.ended (listing.clauses 𝓤 H A at-mem run) (ν ∷ [], tt) (ad, (x l₃ γ, tt)) tt r)))) (id⊢ 𝓤 _) $ await ! tt $ pick ! (λ r.
           -- what `listing` ensures, at some last list
-          split ! $ move ! (1 ∷ []) $ use1 W (some (λ (zs : Unit {0} × (List Row × Unit {0})). ‵ (lasts listing.ended (ν ∷ [], tt) (ad, (x l₃ γ, tt)) zs) ⊛ raw (fact 𝓤 (Says ad rs r (zs .1 .0))))) (id⊢ 𝓤 _) $ pick ! (λ zs.
+          split ! $ move ! (1 ∷ []) $
+          use1 W (some (λ (zs : Unit {0} × (List Row × Unit {0})). ‵ (lasts listing.ended (ν ∷ [], tt) (ad, (x l₃ γ, tt)) zs) ⊛ raw (fact 𝓤 (Says ad rs r (zs .1 .0))))) (id⊢ 𝓤 _) $ pick ! (λ zs.
           split ! $ move ! (1 ∷ []) $ heard ! (Says ad rs r (zs .1 .0)) (λ e. fsplit ! $ drop ! $ fsplit ! $ fsplit ! $ move ! (1 ∷ []) $ feqL ! (λ _.
           move ! (2 ∷ []) $ split ! $ move ! (1 ∷ []) $ peeks ! u32 (Is u32) (shows 𝓤 H A u32) r (w ∷ []) (λ is. land ! (from ! (stop !)) (init ! 11 refl (uint-lawful 𝓤 H A W w32 .typed r _ is .0)) $
           rewrite ! 11 (λ (u : Val). ‵ (fat fullShare (tyInt w32) l₄ 0 u)) (ap only (is .0)) refl $
@@ -198,9 +210,10 @@ module _ {M : Type 1} (𝓤 : URA M) (H : Heap 𝓤) (A : Atoms 𝓤) (W : Given
           use1 W (given (Is Rows (zs .1 .0) (rows-val (zs .1 .0) ∷ [])) (‵ (fat fullShare rowsTy l₃ 0 (rows-val (zs .1 .0))))) (rows-in 𝓤 H A W l₃ (zs .1 .0)) $ learn ! (λ is-zs.
           -- [_3; true; true; _7; …; _6; …; _5; …; _4; …; …; _2; …; _1; …; room for _0; …]
           assigns ! (of-opd ! (load ! (from ! (stop !)) (look ! 0 refl))) (from ! (stop !)) (init ! 3 refl (typed (zs .1 .0) is-zs)) $
-          assigns ! (agg ! (and-then ! (load ! (from ! (stop !)) (look ! 9 refl)) (and-then ! (load ! (from ! (stop !)) (look ! 3 refl)) (no-more !)))) (from ! (stop !)) (init ! 16 refl (out-typed r (zs .1 .0) (out-is r (zs .1 .0) (is .1) is-zs))) $
+          assigns ! (agg ! (and-then ! (load ! (from ! (stop !)) (look ! 9 refl)) (and-then ! (load ! (from ! (stop !)) (look ! 3 refl)) (no-more !))))
+          (from ! (stop !)) (init ! 16 refl (out-typed r (zs .1 .0) (out-is r (zs .1 .0) (is .1) is-zs))) $
           returns ! (look ! 16 refl) $ forget ! 0 refl $ forget ! 3 refl $ forget ! 5 refl $ forget ! 7 refl $ forget ! 9 refl $ forget ! 12 refl $ forget ! 14 refl $ forget ! 16 refl $
-          move ! (16 ∷ 17 ∷ []) $ free1 ! $ move ! (14 ∷ 15 ∷ []) $ free1 ! $ move ! (12 ∷ 13 ∷ []) $ free1 ! $ move ! (0 ∷ 11 ∷ []) $ free1 ! $ move ! (8 ∷ 9 ∷ []) $ free1 ! $ move ! (6 ∷ 7 ∷ []) $ free1 ! $ move ! (4 ∷ 5 ∷ []) $ free1 ! $ move ! (2 ∷ 3 ∷ []) $ free1 ! $ free0 ! $
+          move ! (16 ∷ 17 ∷ 14 ∷ 15 ∷ 12 ∷ 13 ∷ 0 ∷ 11 ∷ 9 ∷ 10 ∷ 7 ∷ 8 ∷ 5 ∷ 6 ∷ 3 ∷ 4 ∷ []) $ free1 ! $ free1 ! $ free1 ! $ free1 ! $ free1 ! $ free1 ! $ free1 ! $ free1 ! $ free0 ! $
           keep ! [] $ by ! (exits r (zs .1 .0) e (out-is r (zs .1 .0) (is .1) is-zs)))))))))))))))))))
         where
           typed : (l : List Row) → Is Rows l (rows-val l ∷ []) → dec.T (hasTy rowsTy (rows-val l)) × WT (rows-val l)
@@ -215,17 +228,18 @@ module _ {M : Type 1} (𝓤 : URA M) (H : Heap 𝓤) (A : Atoms 𝓤) (W : Given
           room : Room T.the-row (length rs)
           room = subst (Room T.the-row) (sym long) (lit< tt, lit< tt)
 
-module _ {M : Type 1} (𝓤 : URA M) (H : Heap 𝓤) (A : Atoms 𝓤) (W : Given 𝓤 H A) (at-mem : Memory → SProp 𝓤) (run : Routine → Fun 𝓤) where
-  listed-in-walks : (C : Calls 𝓤 H) (Λ : Loops 𝓤 H) → FmC 𝓤 H (W .laws) C → Triple 𝓤 (C listing-def.name) (Listing 𝓤 H A at-mem run) → Walks 𝓤 H A listed-in.ended stayed (WpFn 𝓤 H C Λ code.function) (listed-in.clauses 𝓤 H A at-mem run)
-  listed-in-walks C Λ fm known = walked 𝓤 H A listed-in.ended stayed (listed-in.clauses 𝓤 H A at-mem run) (WpFn 𝓤 H C Λ code.function)
-      (λ κs. (LL.vals U.the-type U′.the-laws, (array-vals (LL.vals T.the-type T′.the-laws), tt))) (λ κs. (LL.tells U.the-type U′.the-laws, (array-tells T.the-row (LL.vals T.the-type T′.the-laws) (LL.tells T.the-type T′.the-laws) N, tt)))
-      (λ κs qs bounds a g are. via 𝓤 _ (fst∗ 𝓤 _ (emp 𝓤)) (walk 𝓤 H A W at-mem run (a .0) (a .1 .0) (are .0) (are .1 .0) C Λ fm known))
+module _ {M : Type 1} (𝓤 : URA M) (H : Heap 𝓤) (A : Atoms 𝓤) (W : Given 𝓤 H A) (at-mem : Memory → SProp 𝓤) (run : Routine → Fun 𝓤)
+    (𝓣 : Tables 𝓤 H) (known : Triple 𝓤 (𝓣 .C listing-def.name) (Listing 𝓤 H A at-mem run)) where
+  listed-in-walks : Walks 𝓤 H A listed-in.ended stayed (WpFn 𝓤 H (𝓣 .C) (𝓣 .Λ) code.function) (listed-in.clauses 𝓤 H A at-mem run)
+  listed-in-walks = walked 𝓤 H A listed-in.ended stayed (listed-in.clauses 𝓤 H A at-mem run) (WpFn 𝓤 H (𝓣 .C) (𝓣 .Λ) code.function)
+      (λ κs. (LL.vals U.the-type U′.the-laws, (array-vals (LL.vals T.the-type T′.the-laws), tt)))
+      (λ κs. (LL.tells U.the-type U′.the-laws, (array-tells T.the-row (LL.vals T.the-type T′.the-laws) (LL.tells T.the-type T′.the-laws) N, tt)))
+      (λ κs qs bounds a g are. via 𝓤 _ (fst∗ 𝓤 _ (emp 𝓤)) (walk 𝓤 H A W at-mem run (a .0) (a .1 .0) (are .0) (are .1 .0) (𝓣 .C) (𝓣 .Λ) (fmOf 𝓤 H (W .laws) 𝓣) known))
 
-listed-in-meets : {M : Type 1} (𝓤 : URA M) (H : Heap 𝓤) (A : Atoms 𝓤) (W : Given 𝓤 H A) (at-mem : Memory → SProp 𝓤) (run : Routine → Fun 𝓤) (𝓣 : Tables 𝓤 H) → Triple 𝓤 (𝓣 .C listing-def.name) (Listing 𝓤 H A at-mem run)
-    → Meets 𝓤 H A listed-in.signature (WpFn 𝓤 H (𝓣 .C) (𝓣 .Λ) code.function) (listed-in.spec 𝓤 H A at-mem run)
-listed-in-meets 𝓤 H A W at-mem run 𝓣 known =
-    walk-meets 𝓤 H A listed-in.ended stayed W (goes-none 𝓤 H A W 0 (λ _. U.the-row) yes (λ κs x f. refl), (goes-none 𝓤 H A W 0 (λ _. Rows) yes (λ κs x f. refl), tt)) (listed-in.clauses 𝓤 H A at-mem run)
-    (WpFn 𝓤 H (𝓣 .C) (𝓣 .Λ) code.function) (WpFn-mono 𝓤 H (W .laws) 𝓣 code.function) (listed-in-walks 𝓤 H A W at-mem run (𝓣 .C) (𝓣 .Λ) (fmOf 𝓤 H (W .laws) 𝓣) known)
+  listed-in-meets : Meets 𝓤 H A listed-in.signature (WpFn 𝓤 H (𝓣 .C) (𝓣 .Λ) code.function) (listed-in.spec 𝓤 H A at-mem run)
+  listed-in-meets =
+      walk-meets 𝓤 H A listed-in.ended stayed W (goes-none 𝓤 H A W 0 (λ _. U.the-row) yes (λ κs x f. refl), (goes-none 𝓤 H A W 0 (λ _. Rows) yes (λ κs x f. refl), tt))
+      (listed-in.clauses 𝓤 H A at-mem run) (WpFn 𝓤 H (𝓣 .C) (𝓣 .Λ) code.function) (WpFn-mono 𝓤 H (W .laws) 𝓣 code.function) listed-in-walks
 
 pub listed-in-spec : {M : Type 1} → stated.statement M
 unfolding code.routine tablesOf

@@ -60,9 +60,11 @@ use prog.Memory.{Memory}
 use prog.Routine.{Routine}
 use prog.Wp.{Heap, Out, Env, afterSeq, afterBlock, afterTurn, Calls, Loops, Wp, atReturn, WpFn, Tables}
 use sound.WpLaws.{fmOf, WpFn-mono}
-use types.Kit.{Given, Item, ‵, raw, _⊛_, ⋆, some, later, runs, anyQ, atRet, Sq, _$_, _∵_, !, qed, by, move, keep, drop, use0, use1, split, join, pick, rewrite, fsplit, fjoin, suffices, frame, await, done}
+use types.Kit.{Given, Item, ‵, raw, _⊛_, ⋆, some, later, runs, frees, prop, anyQ, atRet, Sq, _$_, _∵_, !, qed, by, move, keep, drop, use0, use1, split, join}
+use types.Kit.{pick, rewrite, fsplit, fjoin, suffices, frame, await, done}
 use types.Part.{whole, sub, look-in}
-use types.Run.{look, init, store, store-raw, forget, stop, hop, fld, from, load, lit, of-opd, bin, and-then, no-more, assigns, assigns-last, land, first, skips, jumps, blocks, branches, returns-within, returns, enter, alloc1, alloc0, params1, pass1, pass0, free1, free0, exec, Below, again, loops}
+use types.Run.{look, init, store, store-raw, forget, stop, hop, fld, from, load, lit, of-opd, bin, and-then, no-more, assigns, assigns-last, land}
+use types.Run.{first, skips, jumps, blocks, branches, returns-within, returns, enter, alloc1, alloc0, params1, pass1, pass0, free1, free0, exec, Below, again, loops}
 use Rattle.listing.proofs.listing.Statement as stated
 
 -- ---- the code: what follows the first statement
@@ -106,7 +108,8 @@ module _ {M : Type 1} (𝓤 : URA M) (H : Heap 𝓤) (A : Atoms 𝓤) (at-mem : 
   unfolding rowIn
   row-at-says ad i r = exE 𝓤 _ (λ ws. snd∗ 𝓤 (sem 𝓤 H A (lasts row-at.ended tt (ad, (i, tt)) ws)) (fact 𝓤 (r ≡ rowIn ad i)))
 
-module _ {M : Type 1} (𝓤 : URA M) (H : Heap 𝓤) (A : Atoms 𝓤) (W : Given 𝓤 H A) (at-mem : Memory → SProp 𝓤) (run : Routine → Fun 𝓤) (κ : Lft) (q : Share) (b o : ℕ) (γ : GName) (ad : Adapter) (ys : List Row) where
+module _ {M : Type 1} (𝓤 : URA M) (H : Heap 𝓤) (A : Atoms 𝓤) (W : Given 𝓤 H A) (at-mem : Memory → SProp 𝓤) (run : Routine → Fun 𝓤)
+    (κ : Lft) (q : Share) (b o : ℕ) (γ : GName) (ad : Adapter) (ys : List Row) where
   abbrev mach : Val
   mach = LL.val U.the-type U′.the-laws ad
 
@@ -129,11 +132,17 @@ module _ {M : Type 1} (𝓤 : URA M) (H : Heap 𝓤) (A : Atoms 𝓤) (W : Given
   abbrev Post : Val → SProp 𝓤
   Post = walkOf 𝓤 H A listing.ended stayed (listing.clauses 𝓤 H A at-mem run) .post (((κ, tt), (q, tt), tt, a, vals), tt)
 
+  -- the borrow at the list l, what is seen of it, and the token
+  abbrev Seen : List Row → Item 𝓤
+  Seen l = ‵ (fobs γ (codedHoleys T.the-row .code (heres T.the-row l)))
+
+  abbrev Lent : List Row → List (Item 𝓤) → List (Item 𝓤)
+  Lent l rest = Seen l ∷ ‵ (fbor κ (Held T.the-row (length l) b o γ)) ∷ ‵ (flft κ q) ∷ rest
+
   module _ (room : Room T.the-row (length ys)) (is-ad : Is U.the-row ad (mach ∷ [])) where
-    exits : (r : ℕ) (zs : List Row) → r < 2 ^ 32 → length zs ≡ length ys → Says ad ys r zs
-        → ent 𝓤 (⋆ 𝓤 H A (‵ (fobs γ (codedHoleys T.the-row .code (heres T.the-row zs))) ∷ ‵ (fbor κ (Held T.the-row (length zs) b o γ)) ∷ ‵ (flft κ q) ∷ [])) (Post (vint w32 r))
+    exits : (r : ℕ) (zs : List Row) → r < 2 ^ 32 → length zs ≡ length ys → Says ad ys r zs → ent 𝓤 (⋆ 𝓤 H A (Lent zs [])) (Post (vint w32 r))
     exits r zs r-fits e said =
-        qed W (‵ (fobs γ (codedHoleys T.the-row .code (heres T.the-row zs))) ∷ ‵ (fbor κ (Held T.the-row (length zs) b o γ)) ∷ ‵ (flft κ q) ∷ []) ∵
+        qed W (Lent zs []) ∵
         suffices ! _ (ends-at 𝓤 H A listing.ended stayed (listing.clauses 𝓤 H A at-mem run) W (((κ, tt), (q, tt), tt, a, vals), tt) (vint w32 r) r (tt, (zs, tt)) (tt, (e, tt))) $ says ! said $
         nothing ! $ move ! (3 ∷ 0 ∷ []) $ join ! $ frame ! $
         -- [obs; the borrow]: with the fact on the machine value it is what the slice owns
@@ -160,12 +169,23 @@ module _ {M : Type 1} (𝓤 : URA M) (H : Heap 𝓤) (A : Atoms 𝓤) (W : Given
       abbrev En : Env 𝓤 H
       En = (tyInt w32, l₀) ∷ (U′.mir, l₁) ∷ (slice, l₂) ∷ (word, l₃) ∷ (word, l₄) ∷ (tyBool, l₅) ∷ (tyBool, l₆) ∷ (T′.mir, l₇) ∷ (word, l₈) ∷ (tyPtr, l₉) ∷ []
 
+      -- the locals: the arguments, _3 and _0, and the others empty
+      abbrev Locals : Item 𝓤 → Item 𝓤 → List (Item 𝓤)
+      Locals three zero = ‵ (froom tyPtr l₉ 0) ∷ ‵ (fdies tyPtr l₉) ∷ ‵ (froom word l₈ 0) ∷ ‵ (fdies word l₈) ∷ ‵ (froom T′.mir l₇ 0) ∷ ‵ (fdies T′.mir l₇)
+          ∷ ‵ (froom tyBool l₆ 0) ∷ ‵ (fdies tyBool l₆) ∷ ‵ (froom tyBool l₅ 0) ∷ ‵ (fdies tyBool l₅) ∷ ‵ (froom word l₄ 0) ∷ ‵ (fdies word l₄) ∷ three ∷ ‵ (fdies word l₃)
+          ∷ ‵ (fat fullShare slice l₂ 0 s) ∷ ‵ (fdies slice l₂) ∷ ‵ (fat fullShare U′.mir l₁ 0 mach) ∷ ‵ (fdies U′.mir l₁) ∷ zero ∷ ‵ (fdies (tyInt w32) l₀) ∷ []
+
+      -- a return with r: they are freed
+      leaves : (r : ℕ) (zs : List Row) → r < 2 ^ 32 → length zs ≡ length ys → Says ad ys r zs
+          → Sq W (Lent zs (Locals (‵ (froom word l₃ 0)) (‵ (fat fullShare (tyInt w32) l₀ 0 (vint w32 r))))) (frees En (prop (Post (vint w32 r))))
+      leaves r zs r-fits e said =
+          forget ! 17 refl $ forget ! 19 refl $ forget ! 21 refl $ move ! (21 ∷ 22 ∷ 19 ∷ 20 ∷ 17 ∷ 18 ∷ 15 ∷ 16 ∷ 13 ∷ 14 ∷ 11 ∷ 12 ∷ 9 ∷ 10 ∷ 7 ∷ 8 ∷ 5 ∷ 6 ∷ 3 ∷ 4 ∷ []) $
+          free1 ! $ free1 ! $ free1 ! $ free1 ! $ free1 ! $ free1 ! $ free1 ! $ free1 ! $ free1 ! $ free1 ! $ free0 ! $ by ! (exits r zs r-fits e said)
+
       -- the invariant: the open borrow, with i rows written, and the locals
       abbrev At : Upto → List (Item 𝓤)
-      At i = ‵ (row T.the-row fullShare (written ad (i .0) ys) b o) ∷ ‵ (fobor κ q (Held T.the-row (length ys) b o γ)) ∷ ‵ (fobs γ (codedHoleys T.the-row .code (heres T.the-row ys))) ∷ ‵ (fauth γ (codedHoleys T.the-row .code (heres T.the-row ys)))
-          ∷ ‵ (froom tyPtr l₉ 0) ∷ ‵ (fdies tyPtr l₉) ∷ ‵ (froom word l₈ 0) ∷ ‵ (fdies word l₈) ∷ ‵ (froom T′.mir l₇ 0) ∷ ‵ (fdies T′.mir l₇) ∷ ‵ (froom tyBool l₆ 0) ∷ ‵ (fdies tyBool l₆)
-          ∷ ‵ (froom tyBool l₅ 0) ∷ ‵ (fdies tyBool l₅) ∷ ‵ (froom word l₄ 0) ∷ ‵ (fdies word l₄) ∷ ‵ (fat fullShare word l₃ 0 (vint w64 (i .0))) ∷ ‵ (fdies word l₃)
-          ∷ ‵ (fat fullShare slice l₂ 0 s) ∷ ‵ (fdies slice l₂) ∷ ‵ (fat fullShare U′.mir l₁ 0 mach) ∷ ‵ (fdies U′.mir l₁) ∷ ‵ (froom (tyInt w32) l₀ 0) ∷ ‵ (fdies (tyInt w32) l₀) ∷ []
+      At i = ‵ (row T.the-row fullShare (written ad (i .0) ys) b o) ∷ ‵ (fobor κ q (Held T.the-row (length ys) b o γ)) ∷ Seen ys ∷ ‵ (fauth γ (codedHoleys T.the-row .code (heres T.the-row ys)))
+          ∷ Locals (‵ (fat fullShare word l₃ 0 (vint w64 (i .0)))) (‵ (froom (tyInt w32) l₀ 0))
 
       -- a turn's postcondition: it ends nearer to 8, or the loop is left and the rest of the body runs
       abbrev Turned : Upto → Out → SProp 𝓤
@@ -180,8 +200,10 @@ module _ {M : Type 1} (𝓤 : URA M) (H : Heap 𝓤) (A : Atoms 𝓤) (W : Given
           (λ less. let small : i .0 < 8 = omega (arith, ltb→lt (i .0) _ less) in skips ! $ exec ! C Λ En (after (after mirs.turn-1)) (anyQ (Turned i)) $
           -- `row_at`
           use0 W (raw (RowAt 𝓤 H A at-mem run .pre (to-row (i .0)))) (goes-row (i .0) small) $
-          calls-at ! (fmOf 𝓤 H (W .laws) 𝓣) (RowAt 𝓤 H A at-mem run) known (to-row (i .0)) (and-then ! (load ! (from ! (stop !)) (look ! 21 refl)) (and-then ! (load ! (from ! (stop !)) (look ! 17 refl)) (no-more !))) (λ v.
-          use1 W (later (some (λ (r : Row). (‵ ftrue ⊛ ‵ (T.the-row .own r (v ∷ []))) ⊛ raw (ensured 𝓤 H A row-at.ended (row-at.clauses 𝓤 H A at-mem run) tt (ad, (i .0, tt)) tt r)))) (id⊢ 𝓤 _) $ await ! tt $ pick ! (λ r.
+          calls-at ! (fmOf 𝓤 H (W .laws) 𝓣) (RowAt 𝓤 H A at-mem run) known (to-row (i .0))
+          (and-then ! (load ! (from ! (stop !)) (look ! 21 refl)) (and-then ! (load ! (from ! (stop !)) (look ! 17 refl)) (no-more !))) (λ v.
+          use1 W (later (some (λ (r : Row). (‵ ftrue ⊛ ‵ (T.the-row .own r (v ∷ []))) ⊛ raw (ensured 𝓤 H A row-at.ended (row-at.clauses 𝓤 H A at-mem run) tt (ad, (i .0, tt)) tt r))))
+          (id⊢ 𝓤 _) $ await ! tt $ pick ! (λ r.
           split ! $ move ! (1 ∷ []) $ use1 W (raw (fact 𝓤 (r ≡ rowIn ad (i .0)))) (row-at-says 𝓤 H A at-mem run ad (i .0) r) $ heard ! (r ≡ rowIn ad (i .0)) (λ e. split ! $ drop ! $
           rewrite ! 0 (λ (z : Row). ‵ (T.the-row .own z (v ∷ []))) e refl $ peeks ! T.the-row (Is T.the-row) (shows 𝓤 H A T.the-row) (rowIn ad (i .0)) (v ∷ []) (λ is.
           land ! (from ! (stop !)) (init ! 9 refl (typed i v is)) $
@@ -189,21 +211,21 @@ module _ {M : Type 1} (𝓤 : URA M) (H : Heap 𝓤) (A : Atoms 𝓤) (W : Given
           assigns ! (bin ! (load ! (from ! (stop !)) (look ! 17 refl)) (lit ! tt) (record { fits = far i })) (from ! (stop !)) (init ! 7 refl (tt, record { fits = far i })) $
           assigns ! (bin ! (load ! (from ! (fld ! refl (stop !))) (look-in ! 19 (sub ! 0 refl (whole !)))) (load ! (from ! (stop !)) (look ! 7 refl)) tt) (from ! (stop !)) (init ! 5 refl (tt, tt)) $
           rewrite ! 5 (λ (p : ℕ). ‵ (fat fullShare tyPtr l₉ 0 (vptr b p))) (sym (place-is 20 o (i .0))) refl $
-          move ! (1 ∷ []) $ elem-out ! T.the-row (Is T.the-row) (shows 𝓤 H A T.the-row) (LL.vals T.the-type T′.the-laws) (LL.tells T.the-type T′.the-laws) fullShare (written ad (i .0) ys) (i .0) (rowIn ad (i .0)) b o (within i small) (λ _.
+          move ! (1 ∷ []) $ elem-out ! T.the-row (Is T.the-row) (shows 𝓤 H A T.the-row) (LL.vals T.the-type T′.the-laws) (LL.tells T.the-type T′.the-laws) fullShare
+          (written ad (i .0) ys) (i .0) (rowIn ad (i .0)) b o (within i small) (λ _.
           -- [rows[i]; what it owns; the others; what the new row owns; the open borrow; obs; auth; _9; …; _8; …; _7; …]
           assigns ! (of-opd ! (load ! (from ! (stop !)) (look ! 11 refl))) (from ! (hop ! (look ! 7 refl) (stop !))) (store-raw ! 0 refl (typed i v is)) $
           move ! (1 ∷ []) $ drop ! $ move ! (0 ∷ 2 ∷ 1 ∷ []) $ elem-put ! T.the-row fullShare (written ad (i .0) ys) (i .0) (rowIn ad (i .0)) (v ∷ []) b o (within i small) $
           rewrite ! 0 (λ (l : List Row). ‵ (row T.the-row fullShare l b o)) (written-next ad (i .0) ys (inside i small)) refl $
-          assigns-last ! (bin ! (load ! (from ! (stop !)) (look ! 16 refl)) (lit ! tt) (record { fits = fits (next small) })) (from ! (stop !)) (store ! 16 refl (tt, record { fits = fits (next small) })) $
+          assigns-last ! (bin ! (load ! (from ! (stop !)) (look ! 16 refl)) (lit ! tt) (record { fits = fits (next small) }))
+          (from ! (stop !)) (store ! 16 refl (tt, record { fits = fits (next small) })) $
           forget ! 4 refl $ forget ! 6 refl $ forget ! 8 refl $ forget ! 10 refl $ again ! Nearer At i (next small) (add-one-dec 8 (i .0) small)))))))
           (λ over. let last : 8 ≡ i .0 = omega (arith, nltb→le (i .0) _ over, i .1) in jumps ! $ exec ! C Λ En mirs.t-6 (atRet En Post) $
           closes-slice ! tt T.the-row ys (written ad (i .0) ys) (long i) b o $
           -- [obs; the borrow; the token; _9; …; _8; …; _7; …; _6; …; _5; …; _4; …; _3; …; _2; …; _1; …; room for _0; …]
           assigns ! (of-opd ! (lit ! tt)) (from ! (stop !)) (init ! 21 refl (tt, record { fits = lit< tt })) $
-          returns ! (look ! 21 refl) $ forget ! 9 refl $ forget ! 15 refl $ forget ! 17 refl $ forget ! 19 refl $ forget ! 21 refl $
-          move ! (21 ∷ 22 ∷ []) $ free1 ! $ move ! (19 ∷ 20 ∷ []) $ free1 ! $ move ! (17 ∷ 18 ∷ []) $ free1 ! $ move ! (15 ∷ 16 ∷ []) $ free1 ! $ move ! (13 ∷ 14 ∷ []) $ free1 ! $
-          move ! (11 ∷ 12 ∷ []) $ free1 ! $ move ! (9 ∷ 10 ∷ []) $ free1 ! $ move ! (7 ∷ 8 ∷ []) $ free1 ! $ move ! (5 ∷ 6 ∷ []) $ free1 ! $ move ! (3 ∷ 4 ∷ []) $ free1 ! $ free0 ! $
-          by ! (exits 0 (written ad (i .0) ys) (lit< tt) (long i) (subst (λ (k : ℕ). Says ad ys 0 (written ad k ys)) last (full-says ad ys eight))))
+          returns ! (look ! 21 refl) $ forget ! 9 refl $ forget ! 15 refl $
+          leaves 0 (written ad (i .0) ys) (lit< tt) (long i) (subst (λ (k : ℕ). Says ad ys 0 (written ad k ys)) last (full-says ad ys eight)))
         where
           next : i .0 < 8 → Upto
           next small = (i .0 + 1, add-one-le small)
@@ -227,21 +249,15 @@ module _ {M : Type 1} (𝓤 : URA M) (H : Heap 𝓤) (A : Atoms 𝓤) (W : Given
           typed j v is = LL.lawful T.the-type T′.the-laws 𝓤 H A W .typed (rowIn ad (j .0)) (v ∷ []) is .0
 
       -- the body, from the arguments in their locals
-      body : Sq W (‵ (fobs γ (codedHoleys T.the-row .code (heres T.the-row ys))) ∷ ‵ (fbor κ (Held T.the-row (length ys) b o γ)) ∷ ‵ (flft κ q)
-          ∷ ‵ (froom tyPtr l₉ 0) ∷ ‵ (fdies tyPtr l₉) ∷ ‵ (froom word l₈ 0) ∷ ‵ (fdies word l₈) ∷ ‵ (froom T′.mir l₇ 0) ∷ ‵ (fdies T′.mir l₇) ∷ ‵ (froom tyBool l₆ 0) ∷ ‵ (fdies tyBool l₆)
-          ∷ ‵ (froom tyBool l₅ 0) ∷ ‵ (fdies tyBool l₅) ∷ ‵ (froom word l₄ 0) ∷ ‵ (fdies word l₄) ∷ ‵ (froom word l₃ 0) ∷ ‵ (fdies word l₃)
-          ∷ ‵ (fat fullShare slice l₂ 0 s) ∷ ‵ (fdies slice l₂) ∷ ‵ (fat fullShare U′.mir l₁ 0 mach) ∷ ‵ (fdies U′.mir l₁) ∷ ‵ (froom (tyInt w32) l₀ 0) ∷ ‵ (fdies (tyInt w32) l₀) ∷ [])
-          (runs C Λ En mirs.t-1 (atRet En Post))
+      body : Sq W (Lent ys (Locals (‵ (froom word l₃ 0)) (‵ (froom (tyInt w32) l₀ 0)))) (runs C Λ En mirs.t-1 (atRet En Post))
       body =
           -- [obs; the borrow; the token; _9; …; _8; …; _7; …; _6; …; _5; …; _4; …; _3; …; _2; …; _1; …; room for _0; …]
           assigns ! (of-opd ! (load ! (from ! (fld ! refl (stop !))) (look-in ! 17 (sub ! 1 refl (whole !))))) (from ! (stop !)) (init ! 13 refl (tt, record { fits = room .0 })) $
           assigns ! (bin ! (load ! (from ! (stop !)) (look ! 13 refl)) (lit ! tt) tt) (from ! (stop !)) (init ! 11 refl (tt, tt)) $
           first ! $ branches ! (load ! (from ! (stop !)) (look ! 11 refl))
           (λ short. assigns ! (of-opd ! (lit ! tt)) (from ! (stop !)) (init ! 21 refl (tt, record { fits = lit< tt })) $
-          returns-within ! Post refl (look ! 21 refl) $ forget ! 11 refl $ forget ! 13 refl $ forget ! 17 refl $ forget ! 19 refl $ forget ! 21 refl $
-          move ! (21 ∷ 22 ∷ []) $ free1 ! $ move ! (19 ∷ 20 ∷ []) $ free1 ! $ move ! (17 ∷ 18 ∷ []) $ free1 ! $ move ! (15 ∷ 16 ∷ []) $ free1 ! $ move ! (13 ∷ 14 ∷ []) $ free1 ! $
-          move ! (11 ∷ 12 ∷ []) $ free1 ! $ move ! (9 ∷ 10 ∷ []) $ free1 ! $ move ! (7 ∷ 8 ∷ []) $ free1 ! $ move ! (5 ∷ 6 ∷ []) $ free1 ! $ move ! (3 ∷ 4 ∷ []) $ free1 ! $ free0 ! $
-          by ! (exits EINVAL ys (lit< tt) refl (short-says ad ys (omega (arith, ltb→lt (length ys) _ short)))))
+          returns-within ! Post refl (look ! 21 refl) $ forget ! 11 refl $ forget ! 13 refl $
+          leaves EINVAL ys (lit< tt) refl (short-says ad ys (omega (arith, ltb→lt (length ys) _ short))))
           (λ enough. let eight : 8 ≤ length ys = omega (arith, nltb→le (length ys) _ enough) in skips ! $ exec ! C Λ En mirs.t-4 (atRet En Post) $
           assigns ! (of-opd ! (lit ! tt)) (from ! (stop !)) (init ! 15 refl (tt, record { fits = lit< tt })) $ forget ! 11 refl $ forget ! 13 refl $
           opens-slice ! tt T.the-row ys b o $ first ! $ blocks ! $ loops ! 𝓣 Nearer Nearer-wf At (turns eight) (0, zero-le))
@@ -254,12 +270,14 @@ module _ {M : Type 1} (𝓤 : URA M) (H : Heap 𝓤) (A : Atoms 𝓤) (W : Given
         move ! (1 ∷ []) $ fsplit ! $ drop ! $ fsplit ! $ fsplit ! $ drop ! $ fsplit ! $ move ! (3 ∷ []) $ split ! $ keep ! (2 ∷ 3 ∷ 0 ∷ []) $
         enter ! (𝓣 .C) (𝓣 .Λ) code.function (mach ∷ s ∷ []) _ $
         alloc1 ! (λ l₀. alloc1 ! (λ l₁. alloc1 ! (λ l₂. alloc1 ! (λ l₃. alloc1 ! (λ l₄. alloc1 ! (λ l₅. alloc1 ! (λ l₆. alloc1 ! (λ l₇. alloc1 ! (λ l₈. alloc1 ! (λ l₉. alloc0 ! $ params1 ! $
-        pass1 ! (init ! 16 refl typed) $ pass1 ! (init ! 14 refl (tt, (tt, (record { fits = room .0 }, tt)))) $ pass0 ! $ move ! (20 ∷ 21 ∷ 22 ∷ []) $ body 𝓣 known l₀ l₁ l₂ l₃ l₄ l₅ l₆ l₇ l₈ l₉))))))))))
+        pass1 ! (init ! 16 refl typed) $ pass1 ! (init ! 14 refl (tt, (tt, (record { fits = room .0 }, tt)))) $ pass0 ! $
+        move ! (20 ∷ 21 ∷ 22 ∷ []) $ body 𝓣 known l₀ l₁ l₂ l₃ l₄ l₅ l₆ l₇ l₈ l₉))))))))))
       where
         typed : dec.T (hasTy U′.mir mach) × WT mach
         typed = LL.lawful U.the-type U′.the-laws 𝓤 H A W .typed ad _ is-ad .0
 
-module _ {M : Type 1} (𝓤 : URA M) (H : Heap 𝓤) (A : Atoms 𝓤) (W : Given 𝓤 H A) (at-mem : Memory → SProp 𝓤) (run : Routine → Fun 𝓤) (𝓣 : Tables 𝓤 H) (known : Triple 𝓤 (𝓣 .C row-at-def.name) (RowAt 𝓤 H A at-mem run)) where
+module _ {M : Type 1} (𝓤 : URA M) (H : Heap 𝓤) (A : Atoms 𝓤) (W : Given 𝓤 H A) (at-mem : Memory → SProp 𝓤) (run : Routine → Fun 𝓤)
+    (𝓣 : Tables 𝓤 H) (known : Triple 𝓤 (𝓣 .C row-at-def.name) (RowAt 𝓤 H A at-mem run)) where
   listing-walks : Walks 𝓤 H A listing.ended stayed (WpFn 𝓤 H (𝓣 .C) (𝓣 .Λ) code.function) (listing.clauses 𝓤 H A at-mem run)
   listing-walks = walked 𝓤 H A listing.ended stayed (listing.clauses 𝓤 H A at-mem run) (WpFn 𝓤 H (𝓣 .C) (𝓣 .Λ) code.function)
       (λ κs. (LL.vals U.the-type U′.the-laws, (slice-vals, tt))) (λ κs. (LL.tells U.the-type U′.the-laws, (mut-slice-tells (named 0) (κs .0) T.the-row, tt)))

@@ -23,7 +23,10 @@ with-requires c κs = search needs
 
 returns-2 : tie.Need-returns-2
 unfolding doOpen
-returns-2 c = (rw (c .with .ensures, c .before .lowest-closed .ensures .0) (done-outcome (stateOf (c .before .before .before .before .args .parts)) _ _ _ (c .before .before .before .open-errno .ensures) (c .before .before .if1 .left)), λ z. absurd (z refl))
+returns-2 c =
+    let done = c .before .before in
+    let errno = done .before in
+    (rw (c .with .ensures, c .before .lowest-closed .ensures .0) (done-outcome (stateOf (errno .before .args .parts)) _ _ _ (errno .open-errno .ensures) (done .if1 .left)), λ z. absurd (z refl))
 
 pub open-spec : {M : Type 1} → statement M
 open-spec =

@@ -14,7 +14,10 @@ of-done-requires : tie.Need-of-done-requires
 of-done-requires c κs = search needs
 
 returns : tie.Need-returns
-returns c = done-effect (c .of-done .result) (c .before .configure .result) _ (c .of-done .ensures .0) (c .of-done .ensures .1) (rw (c .before .before .settings-of .ensures) at (c .before .configure .ensures .0))
+returns c =
+    let d = c .of-done in
+    let a = c .before .configure in
+    done-effect (d .result) (a .result) _ (d .ensures .0) (d .ensures .1) (rw (c .before .before .settings-of .ensures) at (a .ensures .0))
 
 pub configure-spec : {M : Type 1} → statement M
 configure-spec =

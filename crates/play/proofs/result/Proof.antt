@@ -17,7 +17,10 @@ of-done-requires : tie.Need-of-done-requires
 of-done-requires c κs = search needs
 
 returns : tie.Need-returns
-returns c = done-effect (c .of-done .result) (c .before .bus-result .result) _ (c .of-done .ensures .0) (c .of-done .ensures .1) (rw (c .before .before .counts-of .ensures) at (c .before .bus-result .ensures .0))
+returns c =
+    let d = c .of-done in
+    let a = c .before .bus-result in
+    done-effect (d .result) (a .result) _ (d .ensures .0) (d .ensures .1) (rw (c .before .before .counts-of .ensures) at (a .ensures .0))
 
 pub result-spec : {M : Type 1} → statement M
 result-spec =

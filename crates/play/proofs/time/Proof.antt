@@ -19,14 +19,17 @@ array-read-number-4-4 c = search needs
 number-4-requires : tie.Need-number-4-requires
 number-4-requires c κs = search needs
 
-time-requires : tie.Need-time-requires
-time-requires c κs = search needs
+time-passed-requires : tie.Need-time-passed-requires
+time-passed-requires c κs = search needs
 
 of-done-requires : tie.Need-of-done-requires
 of-done-requires c κs = search needs
 
 returns : tie.Need-returns
-returns c = done-effect (c .of-done .result) (c .before .time .result) _ (c .of-done .ensures .0) (c .of-done .ensures .1) (rw (c .before .before .number-4 .ensures) at (c .before .time .ensures))
+returns c =
+    let d = c .of-done in
+    let a = c .before .time-passed in
+    done-effect (d .result) (a .result) _ (d .ensures .0) (d .ensures .1) (rw (c .before .before .number-4 .ensures) at (a .ensures))
 
 pub time-spec : {M : Type 1} → statement M
 time-spec =
@@ -37,6 +40,6 @@ time-spec =
     array-read-number-4-3
     array-read-number-4-4
     number-4-requires
-    time-requires
+    time-passed-requires
     of-done-requires
     returns)

@@ -21,7 +21,8 @@ plain-requires c κs = search needs
 returns : tie.Need-returns
 returns c =
     let d = c .before .before .transmit .result in
-    plain-effect (record { adapter = d .adapter; said = c .plain .result }) (d .errno) (accepted (d .number) (d .«tx_status»)) (d .adapter) _ refl refl (c .plain .ensures) (rw (c .before .before .before .request-of .ensures) at (c .before .before .transmit .ensures .0))
+    let e = rw (c .before .before .before .request-of .ensures) at (c .before .before .transmit .ensures .0) in
+    plain-effect (record { adapter = d .adapter; said = c .plain .result }) (d .errno) (accepted (d .sequence) (d .«tx_status»)) (d .adapter) _ refl refl (c .plain .ensures) e
 
 pub transmit-spec : {M : Type 1} → statement M
 transmit-spec =

@@ -43,7 +43,10 @@ sub-left : tie.Need-sub-left Inv-loop μ-loop
 sub-left c = search needs
 
 loop-less : tie.Need-loop-less Inv-loop μ-loop
-loop-less c = omega (arith, ltb-true 0 (c .before .before .before .before .before .before .before .before .before .before .before .before .loop .left) (c .before .before .before .before .before .before .before .before .before .before .if1 .taken))
+loop-less c =
+    let played = c .before .before .before .before .before in
+    let more = played .before .before .before .before .before in
+    omega (arith, ltb-true 0 (more .before .before .loop .left) (more .if1 .taken))
 
 loop-again : tie.Need-loop-again Inv-loop μ-loop
 loop-again c = search needs

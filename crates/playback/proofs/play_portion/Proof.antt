@@ -13,7 +13,10 @@ use Rattle.playback.proofs.play_portion.Statement.{statement}
 use Rattle.playback.proofs.play_portion.Tie as tie
 
 abbrev Inv-loop : tie.InvT-loop
-Inv-loop portion out₀ player₀ taken₀ out player taken = (taken ≤ length portion) × (length out ≡ length out₀) × (29 ≤ length out₀ → fed (sessionOf player₀) portion .session ≡ fed (sessionOf player) (drop taken portion) .session)
+Inv-loop portion out₀ player₀ taken₀ out player taken =
+    (taken ≤ length portion)
+    × (length out ≡ length out₀)
+    × (29 ≤ length out₀ → fed (sessionOf player₀) portion .session ≡ fed (sessionOf player) (drop taken portion) .session)
 
 abbrev μ-loop : tie.MeasureT-loop
 μ-loop portion out₀ player₀ taken₀ out player taken = length portion - taken
@@ -37,7 +40,9 @@ slice-reshare-prefix-write-all : tie.Need-slice-reshare-prefix-write-all Inv-loo
 slice-reshare-prefix-write-all c = search needs
 
 slice-aggregate-write-all : tie.Need-slice-aggregate-write-all Inv-loop μ-loop
-slice-aggregate-write-all c = let e = c .before .before .before .before in sym (length-take-le (e .feed .result .written) (e .feed .last .1 .1 .0) (e .feed .ensures .1 .1 .1 .1))
+slice-aggregate-write-all c =
+    let f = c .before .before .before .before .feed in
+    sym (length-take-le (f .result .written) (f .last .1 .1 .0) (f .ensures .1 .1 .1 .1))
 
 write-all-requires : tie.Need-write-all-requires Inv-loop μ-loop
 write-all-requires c κs = search needs
@@ -47,11 +52,11 @@ same-length c = search needs
 
 returns : tie.Need-returns Inv-loop μ-loop
 returns c =
-    let e = c .before .before .before .before .before .before .before .feed in
-    let l = c .before .before .before .before .before .before .before .before .before .before .before .loop in
-    let a = c .before .before .before .before .before .before .before .before .before .before .before .before .before .before .args in
-    let p = a .portion .now in
-    let g = rw (all-left p (l .taken)) at (e .ensures .1 .0) in (
+    let f = c .before .before .before .before .before .before .before in
+    let turn = f .before .before .before .before in
+    let l = turn .loop in
+    let p = turn .before .before .before .args .portion .now in
+    let g = rw (all-left p (l .taken)) at (f .feed .ensures .1 .0) in (
       (λ h.
           let z : taken (sessionOf (l .player)) (drop (l .taken) p) (length (l .out)) .taken ≡ 0 = sym (ap (λ (x : Given). x .taken) g) ∙ c .if1 .taken in
           ap (λ (x : Given). x .session) g ∙ fed-none (sessionOf (l .player)) (drop (l .taken) p) (length (l .out)) (omega (arith, l .inv .1)) z ∙ sym (l .inv .2 h)),
@@ -60,31 +65,37 @@ returns c =
 
 add-taken : tie.Need-add-taken Inv-loop μ-loop
 add-taken c =
-    let l = c .before .before .before .before .before .before .before .before .before .before .before .before .loop in
-    let p = c .before .before .before .before .before .before .before .before .before .before .before .before .before .before .before .args .portion .now in
-    let e = c .before .before .before .before .before .before .before .before .feed .ensures in
-    let k : c .before .before .before .before .before .before .before .before .feed .result .taken ≤ length (drop (l .taken) p) = rw (all-left p (l .taken)) at (e .1 .1 .1 .0) in
-    let d = length-drop (l .taken) p in
-    omega (arith, c .before .before .before .before .before .before .before .before .before .before .before .before .before .before .before .good .1 .0 .0)
+    let some = c .before in
+    let f = some .before .before .before .before .before .before .before in
+    let turn = f .before .before .before .before in
+    let start = turn .before .before .before in
+    let n = turn .loop .taken in
+    let k = rw (all-left (start .args .portion .now) n) at (f .feed .ensures .1 .1 .1 .0) in
+    omega (arith, start .good .1 .0 .0, length-drop n (start .args .portion .now))
 
 loop-less : tie.Need-loop-less Inv-loop μ-loop
 loop-less c =
-    let l = c .before .before .before .before .before .before .before .before .before .before .before .before .loop in
-    let p = c .before .before .before .before .before .before .before .before .before .before .before .before .before .before .before .args .portion .now in
-    let e = c .before .before .before .before .before .before .before .before .feed .ensures in
-    let k : c .before .before .before .before .before .before .before .before .feed .result .taken ≤ length (drop (l .taken) p) = rw (all-left p (l .taken)) at (e .1 .1 .1 .0) in
-    let d = length-drop (l .taken) p in
-    omega (arith, c .before .if1 .left)
+    let some = c .before in
+    let f = some .before .before .before .before .before .before .before in
+    let turn = f .before .before .before .before in
+    let p = turn .before .before .before .args .portion .now in
+    let n = turn .loop .taken in
+    let k = rw (all-left p n) at (f .feed .ensures .1 .1 .1 .0) in
+    omega (arith, some .if1 .left, length-drop n p)
 
 loop-again : tie.Need-loop-again Inv-loop μ-loop
 loop-again c =
-    let l = c .before .before .before .before .before .before .before .before .before .before .before .before .loop in
-    let p = c .before .before .before .before .before .before .before .before .before .before .before .before .before .before .before .args .portion .now in
-    let e = c .before .before .before .before .before .before .before .before .feed .ensures in
-    let k : c .before .before .before .before .before .before .before .before .feed .result .taken ≤ length (drop (l .taken) p) = rw (all-left p (l .taken)) at (e .1 .1 .1 .0) in
-    let d = length-drop (l .taken) p in
-    let g = rw (all-left p (l .taken)) at (e .1 .0) in
-    (omega arith, search needs, λ h. l .inv .2 h ∙ fed-on (sessionOf (l .player)) (sessionOf (c .before .before .before .before .before .before .before .before .feed .result .player)) p (l .taken) (length (l .out)) (c .before .before .before .before .before .before .before .before .feed .result .taken) (ap (λ (x : Given). x .session) g) (ap (λ (x : Given). x .taken) g))
+    let some = c .before in
+    let f = some .before .before .before .before .before .before .before in
+    let turn = f .before .before .before .before in
+    let p = turn .before .before .before .args .portion .now in
+    let l = turn .loop in
+    let r = f .feed .result in
+    let k = rw (all-left p (l .taken)) at (f .feed .ensures .1 .1 .1 .0) in
+    let g = rw (all-left p (l .taken)) at (f .feed .ensures .1 .0) in
+    let s = ap (λ (x : Given). x .session) g in
+    let t = ap (λ (x : Given). x .taken) g in
+    (omega (arith, length-drop (l .taken) p), search needs, λ h. l .inv .2 h ∙ fed-on (sessionOf (l .player)) (sessionOf (r .player)) p (l .taken) (length (l .out)) (r .taken) s t)
 
 same-length-2 : tie.Need-same-length-2 Inv-loop μ-loop
 same-length-2 c = search needs

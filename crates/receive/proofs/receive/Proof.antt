@@ -8,13 +8,14 @@ use lib.ListN.{getD}
 use borrow.Author.Needs.{needs}
 use Rattle.entry.specs.Entry.{noEntry}
 use Rattle.entry.specs.declared.Entry.{Entry}
-use Rattle.lists.specs.Blocks.{parts, part-first, part-within, length-parts, parts-take}
+use Rattle.lists.specs.Blocks.{parts, part-first, parts-take}
 use Rattle.lists.specs.Vector.{shifted, shift-start, shift-next}
-use Rattle.parts.proofs.Arrays.{counted, counts-long, entries-long, withArrays}
+use Rattle.inbox.proofs.Arrays.{counted}
+use Rattle.parts.proofs.Arrays.{parts-long, withArrays}
 use Rattle.parts.proofs.Outcomes.{refused-outcome, taken-outcome}
 use Rattle.parts.specs.Parts.{stateOf, orRefused}
 use Rattle.parts.specs.declared.Parts.{Parts}
-use Rattle.receive.proofs.Ends.{some-entry, refused-answer}
+use Rattle.receive.proofs.Ends.{some-entry, taken-handle, refused-answer}
 use Rattle.rules.specs.Call.{Answer, finish}
 use Rattle.rules.specs.Receive.{doReceive}
 use Rattle.rules.specs.State.{withInboxes}
@@ -50,27 +51,22 @@ mul-entry c = search needs
 
 array-copy-out-entry : tie.Need-array-copy-out-entry Inv-loop μ-loop
 array-copy-out-entry c =
-    let a = c .before .before .before .before .before .before .args in
-    let p = a .parts in
-    let eight = counts-long p _ (c .before .before .before .before .before .before .good .0) in
-    let long = entries-long p _ (c .before .before .before .before .before .before .good .0) in
-    let many = counted (p .counts) (p .entries) eight long (a .handle) in
-    let some = some-entry (stateOf p) (a .handle) (sym (c .before .before .before .before .before .receive-errno .ensures) ∙ c .before .if1 .taken) in
-    let within = part-within (stateOf p .inboxes) (a .handle) some in
-    let h : a .handle < 8 = omega (arith, length-parts 16 (p .counts) (p .entries)) in
-    omega arith
+    let test = c .before in
+    let checks = test .before .before .before .before in
+    let start = checks .before in
+    let long = parts-long (start .args .parts) _ (start .good .0) in
+    omega (arith, long .entries, taken-handle (start .args .parts) (start .args .handle) long (sym (checks .receive-errno .ensures) ∙ test .if1 .taken))
 
 loop-holds : tie.Need-loop-holds Inv-loop μ-loop
 loop-holds c =
-    let a = c .before .before .before .before .before .before .before .args in
-    let p = a .parts in
-    let eight = counts-long p _ (c .before .before .before .before .before .before .before .good .0) in
-    let long = entries-long p _ (c .before .before .before .before .before .before .before .good .0) in
-    let many = counted (p .counts) (p .entries) eight long (a .handle) in
-    let some = some-entry (stateOf p) (a .handle) (sym (c .before .before .before .before .before .before .receive-errno .ensures) ∙ c .before .before .if1 .taken) in
-    let within = part-within (stateOf p .inboxes) (a .handle) some in
-    let h : a .handle < 8 = omega (arith, length-parts 16 (p .counts) (p .entries)) in
-    (h, omega arith, omega (arith, c .before .count-at .ensures .0), shift-start (16 * a .handle) (p .entries) (omega arith))
+    let test = c .before .before in
+    let checks = test .before .before .before .before in
+    let start = checks .before in
+    let p = start .args .parts in
+    let h = start .args .handle in
+    let long = parts-long p _ (start .good .0) in
+    let some = taken-handle p h long (sym (checks .receive-errno .ensures) ∙ test .if1 .taken) in
+    (some .0, omega arith, omega (arith, c .before .count-at .ensures .0), shift-start (16 * h) (p .entries) (omega (arith, long .entries)))
 
 add-loop : tie.Need-add-loop Inv-loop μ-loop
 add-loop c = search needs
@@ -98,11 +94,14 @@ loop-less c = search needs
 
 loop-again : tie.Need-loop-again Inv-loop μ-loop
 loop-again c =
-    let a = c .before .before .before .before .before .before .before .before .before .before .args in
+    let turn = c .before .before in
+    let counts = turn .before .before in
+    let start = counts .before .before .before .before .before .before in
+    let a = start .args in
     let p = a .parts in
-    let l = c .before .before .loop in
-    let long = entries-long p _ (c .before .before .before .before .before .before .before .before .before .before .good .0) in
-    let n = c .before .before .before .before .count-at .ensures .1 in (
+    let l = turn .loop in
+    let long = parts-long p _ (start .good .0) .entries in
+    let n = counts .count-at .ensures .1 in (
       omega arith,
       omega arith,
       omega arith,
@@ -121,22 +120,24 @@ array-write-counts c = search needs
 returns : tie.Need-returns Inv-loop μ-loop
 unfolding doReceive
 returns c =
-    let a = c .before .before .before .before .before .args in
+    let checks = c .before .before .before .before in
+    let start = checks .before in
+    let a = start .args in
     let p = a .parts in
-    let g = c .before .before .before .before .before .good .0 in
-    let errno = c .before .before .before .before .receive-errno in
-    let eight = counts-long p _ g in
-    let long = entries-long p _ g in
-    let many = counted (p .counts) (p .entries) eight long (a .handle) in
+    let errno = checks .receive-errno in
+    let long = parts-long p _ (start .good .0) in
+    let many = counted (p .entries) (p .counts) long (a .handle) in
     ⊎-elim
     (λ w.
     let some = some-entry (stateOf p) (a .handle) (sym (errno .ensures) ∙ w .0 .taken) in
     let l = w .3 in
     let n = w .1 .result in
     let m : n - 1 + 1 ≡ min (getD (p .counts) (a .handle) 0) 16 = omega (arith, w .1 .ensures .0) in
-    let left = ap₂ (parts 16) (w .7) (w .6 ∙ l .inv .3) ∙ parts-take 16 (p .counts) (p .entries) (a .handle) (n - 1) (l .i) m (omega (arith, l .inv)) (omega (arith, l .inv, w .4 .left)) in
+    let end : l .i ≡ 16 * a .handle + (n - 1) = omega (arith, l .inv, w .4 .left) in
+    let left = ap₂ (parts 16) (w .7) (w .6 ∙ l .inv .3) ∙ parts-take 16 (p .counts) (p .entries) (a .handle) (n - 1) (l .i) m end (omega (arith, l .inv, long .entries)) in
     let given = w .5 ∙ sym (part-first 16 (p .counts) (p .entries) (a .handle) noEntry _ some) in
-    (taken-outcome (stateOf p) _ _ _ _ _ (errno .ensures) (w .0 .taken) (ap₂ (λ (e : Entry) (is : List (List Entry)). finish (Answer.received e) (withInboxes (stateOf p) is)) given left), λ z. absurd (z (w .0 .taken))))
+    let both = ap₂ (λ (e : Entry) (is : List (List Entry)). finish (Answer.received e) (withInboxes (stateOf p) is)) given left in
+    (taken-outcome (stateOf p) _ _ _ _ _ (errno .ensures) (w .0 .taken) both, λ z. absurd (z (w .0 .taken))))
     (λ w.
     let same = ap₂ (withArrays p) (w .2) (w .3) in
     let none = w .1 ∙ c .before .before .before .none .ensures in

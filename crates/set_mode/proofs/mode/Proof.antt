@@ -1,5 +1,4 @@
 -- `set_mode::mode` meets its contract. Assumes nothing.
-
 use mathlib.Core.Path.{refl}
 use borrow.Author.Needs.{needs}
 use Rattle.parts.proofs.Outcomes.{refused-outcome, done-outcome}
@@ -23,7 +22,11 @@ with-requires c κs = search needs
 
 returns-2 : tie.Need-returns-2
 unfolding doMode
-returns-2 c = (rw (c .with .ensures, c .before .handle-at .ensures) (done-outcome (stateOf (c .before .before .before .before .args .parts)) _ _ _ (c .before .before .before .mode-errno .ensures) (c .before .before .if1 .left)), λ z. absurd (z refl))
+returns-2 c =
+    let test = c .before .before in
+    let checks = test .before in
+    let ends = done-outcome (stateOf (checks .before .args .parts)) _ _ _ (checks .mode-errno .ensures) (test .if1 .left) in
+    (rw (c .with .ensures, c .before .handle-at .ensures) ends, λ z. absurd (z refl))
 
 pub mode-spec : {M : Type 1} → statement M
 mode-spec =

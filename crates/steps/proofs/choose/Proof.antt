@@ -1,9 +1,5 @@
 -- `steps::choose` meets its contract. Assumes nothing.
-use native.Mathlib.Omega.{arith}
 use borrow.Author.Needs.{needs}
-use Rattle.handles.proofs.Slots.{handles-long}
-use Rattle.handles.specs.Roles.{handlesOf}
-use Rattle.lists.specs.Places.{without-past}
 use Rattle.steps.proofs.choose.Statement.{statement}
 use Rattle.steps.proofs.choose.Tie as tie
 
@@ -23,7 +19,11 @@ opcode-requires : tie.Need-opcode-requires
 opcode-requires c κs = search needs
 
 returns : tie.Need-returns
-returns c = rw (c .opcode .ensures, c .before .before .before .length .ensures, c .before .before .before .before .before .before .is-registered .ensures, c .before .before .before .before .before .before .before .is-directed .ensures, c .before .before .before .before .before .before .before .before .roles .ensures, without-past 8 (handlesOf (c .before .before .before .before .before .before .before .before .before .args .handles)) (omega (arith, handles-long (c .before .before .before .before .before .before .before .before .before .args .handles) _ (c .before .before .before .before .before .before .before .before .before .good .0))))
+returns c =
+    let long = c .before .before .before in
+    let registered = long .before .before .before in
+    let directed = registered .before in
+    rw (c .opcode .ensures, long .length .ensures, registered .is-registered .ensures, directed .is-directed .ensures, directed .before .roles .ensures)
 
 pub choose-spec : {M : Type 1} → statement M
 choose-spec =

@@ -25,7 +25,11 @@ add-result-2 : tie.Need-add-result-2
 add-result-2 c = search needs
 
 returns : tie.Need-returns
-returns c = rw (c .new-room .ensures .0, c .before .before .count2 .ensures .0, c .before .before .before .before .wants-reply .ensures, c .before .before .before .before .before .count .ensures .0, c .before .before .before .before .before .before .owed .ensures .0 .0, c .before .before .before .before .before .before .owed .ensures .0 .1)
+returns c =
+    let asks = c .before .before .before .before in
+    let counts = asks .before in
+    let owed = counts .before .owed .ensures .0 in
+    rw (c .new-room .ensures .0, c .before .before .count2 .ensures .0, asks .wants-reply .ensures, counts .count .ensures .0, owed .0, owed .1)
 
 pub is-full-spec : {M : Type 1} → statement M
 is-full-spec =

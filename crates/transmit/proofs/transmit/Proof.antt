@@ -13,8 +13,8 @@ use Rattle.transmit.proofs.transmit.Tie as tie
 transmit-errno-requires : tie.Need-transmit-errno-requires
 transmit-errno-requires c κs = search needs
 
-next-number-requires : tie.Need-next-number-requires
-next-number-requires c κs = search needs
+next-sequence-requires : tie.Need-next-sequence-requires
+next-sequence-requires c κs = search needs
 
 is-self-poll-requires : tie.Need-is-self-poll-requires
 is-self-poll-requires c κs = search needs
@@ -28,19 +28,28 @@ put-requires c κs = search needs
 returns : tie.Need-returns
 unfolding doTransmit
 returns c =
-    let a = c .before .before .before .before .before .args in
+    let numbers = c .before .before in
+    let test = numbers .before in
+    let checks = test .before in
+    let a = checks .before .args in
     let s = stateOf (a .parts) in
     let p = sym (c .before .is-self-poll .ensures) ∙ c .if2 .taken in
-    (taken-outcome s _ _ _ _ _ (c .before .before .before .before .transmit-errno .ensures) (c .before .before .before .if1 .taken) (polled-outcome s (a .handle) (requestOf (a .request)) _ p (c .before .before .next-number .ensures)), λ z. absurd (z (c .before .before .before .if1 .taken)))
+    let ends = polled-outcome s (a .handle) (requestOf (a .request)) _ p (numbers .next-sequence .ensures) in
+    (taken-outcome s _ _ _ _ _ (checks .transmit-errno .ensures) (test .if1 .taken) ends, λ z. absurd (z (test .if1 .taken)))
 
 returns-2 : tie.Need-returns-2
 unfolding doTransmit
 returns-2 c =
-    let a = c .before .before .before .before .before .before .before .args in
+    let sends = c .before .before in
+    let numbers = sends .before .before in
+    let test = numbers .before in
+    let checks = test .before in
+    let a = checks .before .args in
     let s = stateOf (a .parts) in
-    let p = sym (c .before .before .before .is-self-poll .ensures) ∙ c .before .before .if2 .left in
+    let p = sym (sends .before .is-self-poll .ensures) ∙ sends .if2 .left in
     let t = c .put .ensures ∙ ap (put 18 (s .queue)) (c .before .transmission .ensures) in
-    (taken-outcome s _ _ _ _ _ (c .before .before .before .before .before .before .transmit-errno .ensures) (c .before .before .before .before .before .if1 .taken) (queued-outcome s (a .handle) (requestOf (a .request)) _ _ p (c .before .before .before .before .next-number .ensures) t), λ z. absurd (z (c .before .before .before .before .before .if1 .taken)))
+    let ends = queued-outcome s (a .handle) (requestOf (a .request)) _ _ p (numbers .next-sequence .ensures) t in
+    (taken-outcome s _ _ _ _ _ (checks .transmit-errno .ensures) (test .if1 .taken) ends, λ z. absurd (z (test .if1 .taken)))
 
 returns-3 : tie.Need-returns-3
 unfolding doTransmit
@@ -51,7 +60,7 @@ transmit-spec =
     tie.close
     (tie.spec
     transmit-errno-requires
-    next-number-requires
+    next-sequence-requires
     is-self-poll-requires
     transmission-requires
     put-requires

@@ -2,7 +2,8 @@
 use mathlib.Core.List.{List}
 use mathlib.Core.Path.{ap, sym, _∙_}
 use borrow.Author.Needs.{needs}
-use Rattle.unconfigure.specs.Aborted.{abortedResult, transmitsAborted, waitsAborted}
+use Rattle.rules.specs.Unconfigure.{abortedResult}
+use Rattle.unconfigure.specs.Aborted.{transmitsAborted, waitsAborted}
 use Rattle.entry.specs.declared.Entry.{Entry}
 use Rattle.inbox.specs.Inboxes.{inboxesOf, delivered-append}
 use Rattle.queue.specs.Queue.{queueOf}

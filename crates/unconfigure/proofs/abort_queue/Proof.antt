@@ -5,7 +5,8 @@ use native.Mathlib.Omega.{arith}
 use lib.ListN.{take}
 use lib.Seq.{take-all}
 use borrow.Author.Needs.{needs}
-use Rattle.unconfigure.specs.Aborted.{abortedResult, transmitsAborted}
+use Rattle.rules.specs.Unconfigure.{abortedResult}
+use Rattle.unconfigure.specs.Aborted.{transmitsAborted}
 use Rattle.inbox.specs.Inboxes.{inboxesOf, delivered-next}
 use Rattle.queue.specs.Queue.{queueOf}
 use Rattle.transmission.specs.Transmission.{noTransmission}

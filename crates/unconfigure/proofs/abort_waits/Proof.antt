@@ -5,7 +5,8 @@ use native.Mathlib.Omega.{arith}
 use lib.ListN.{take}
 use lib.Seq.{take-all}
 use borrow.Author.Needs.{needs}
-use Rattle.unconfigure.specs.Aborted.{abortedReply, waitsAborted}
+use Rattle.rules.specs.Unconfigure.{abortEntry}
+use Rattle.unconfigure.specs.Aborted.{waitsAborted}
 use Rattle.inbox.specs.Inboxes.{inboxesOf, delivered-next}
 use Rattle.waits.specs.Waits.{waitsOf}
 use Rattle.wait.specs.Wait.{noWait}
@@ -43,7 +44,7 @@ loop-again c =
     let e = c .before .before .before .before .count .ensures .0 in (
       omega arith,
       rw (c .abort-wait .ensures, c .before .at .ensures, l .inv .1)
-          (sym (delivered-next (λ x. x .owner) abortedReply (inboxesOf (a .inboxes)) (waitsOf (a .waits)) (l .i) noWait (omega arith))),
+          (sym (delivered-next (λ x. x .owner) abortEntry (inboxesOf (a .inboxes)) (waitsOf (a .waits)) (l .i) noWait (omega arith))),
     )
 
 returns : tie.Need-returns Inv-loop μ-loop

@@ -39,10 +39,21 @@ none-noted-requires c κs = search needs
 returns : tie.Need-returns
 unfolding doUnconfigure
 returns c =
-    let s = stateOf (c .before .before .before .before .before .before .before .before .args .parts) in
-    let ends = c .before .before .before .before .before .before .abort .ensures ∙ ap (λ (x : Inboxes). waitsAborted (transmitsAborted (inboxesOf x) (pending s)) (s .waits)) (c .before .before .before .before .before .before .before .inboxes .ensures) in
+    let waits = c .before .before in
+    let queue = waits .before .before in
+    let told = queue .before in
+    let aborts = told .before in
+    let s = stateOf (aborts .before .before .args .parts) in
+    let ends = aborts .abort .ensures ∙ ap (λ (x : Inboxes). waitsAborted (transmitsAborted (inboxesOf x) (pending s)) (s .waits)) (aborts .before .inboxes .ensures) in
     ap (finish Answer.done)
-    (unconfigured s (stateOf (c .before .before .before .before .before .with-inboxes .result)) _ _ _ _ _ _ (c .before .before .before .before .before .with-inboxes .ensures) ends (c .before .before .before .before .emptied .ensures) (c .before .before .before .idle .ensures) (c .before .before .emptied2 .ensures) (c .before .no-settings .ensures) (c .none-noted .ensures))
+    (unconfigured s (stateOf (told .with-inboxes .result)) _ _ _ _ _ _
+    (told .with-inboxes .ensures)
+    ends
+    (queue .emptied .ensures)
+    (waits .before .idle .ensures)
+    (waits .emptied2 .ensures)
+    (c .before .no-settings .ensures)
+    (c .none-noted .ensures))
 
 pub unconfigure-spec : {M : Type 1} → statement M
 unconfigure-spec =

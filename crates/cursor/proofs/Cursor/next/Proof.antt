@@ -17,21 +17,30 @@ returns c = let a = c .before .before .args in
 body-length-requires : tie.Need-body-length-requires
 body-length-requires c κs = search needs
 
-at-most-28-requires : tie.Need-at-most-28-requires
-at-most-28-requires c κs = search needs
+at-most-requires : tie.Need-at-most-requires
+at-most-requires c κs = search needs
 
 wrapping-add-u64-requires : tie.Need-wrapping-add-u64-requires
 wrapping-add-u64-requires c κs = search needs
 
 returns-2 : tie.Need-returns-2
-returns-2 c = let b = c .before .before .before in
+returns-2 c =
+    let b = c .before .before .before in
     let a = b .before .before .before .args in
-    next-full (a .self) (a .kind) (a .count) (b .before .before .is-bad .result) (b .body-length .result) (b .before .before .is-bad .ensures) (b .body-length .ensures .0) (c .before .at-most-28 .result) (c .wrapping-add-u64 .result) (b .before .if1 .left) (omega arith) (c .before .at-most-28 .ensures .0) (c .wrapping-add-u64 .ensures)
+    let bad = b .before .before .is-bad in
+    let body = b .body-length in
+    let most = c .before .at-most in
+    let place = c .wrapping-add-u64 in
+    next-full (a .self) (a .kind) (a .count) (bad .result) (body .result) (bad .ensures) (body .ensures .0) (most .result) (place .result) (b .before .if1 .left)
+    (omega arith) (most .ensures .0) (place .ensures)
 
 returns-3 : tie.Need-returns-3
-returns-3 c = let b = c .before in
+returns-3 c =
+    let b = c .before in
     let a = b .before .before .before .args in
-    next-held (a .self) (a .kind) (a .count) (b .before .before .is-bad .result) (b .body-length .result) (b .before .before .is-bad .ensures) (b .body-length .ensures .0) (b .before .if1 .left) (omega arith)
+    let bad = b .before .before .is-bad in
+    let body = b .body-length in
+    next-held (a .self) (a .kind) (a .count) (bad .result) (body .result) (bad .ensures) (body .ensures .0) (b .before .if1 .left) (omega arith)
 
 pub next-spec : {M : Type 1} → statement M
 next-spec =
@@ -40,7 +49,7 @@ next-spec =
     is-bad-requires
     returns
     body-length-requires
-    at-most-28-requires
+    at-most-requires
     wrapping-add-u64-requires
     returns-2
     returns-3)

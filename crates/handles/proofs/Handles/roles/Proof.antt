@@ -1,90 +1,20 @@
 -- `handles::Handles::roles` meets its contract. Assumes nothing.
-use Prim.Native.Nat.{_<_, _≤_, _-_}
-use mathlib.Core.Path.{_≡_, refl}
+use mathlib.Core.Path.{ap, _∙_}
 use native.Mathlib.Omega.{arith}
-use lib.ListN.{length, take}
-use lib.Seq.{take-all}
 use borrow.Author.Needs.{needs}
-use Rattle.lists.specs.Places.{without}
-use Rattle.lists.specs.Sums.{any}
-use Rattle.rules.specs.Handles.{inRole, isExclusiveInitiator, isExclusiveFollower, isPassthrough, isFollower}
-use Rattle.handles.proofs.Slots.{handles-long, role-next}
+use Rattle.lists.specs.Places.{without-past}
+use Rattle.handles.proofs.Slots.{handles-long}
+use Rattle.handles.specs.Roles.{handlesOf, rolesOf}
 use Rattle.handles.proofs.Handles.roles.Statement.{statement}
 use Rattle.handles.proofs.Handles.roles.Tie as tie
 
-abbrev Inv-loop : tie.InvT-loop
-Inv-loop but self b exclusive-initiator₀ exclusive-follower₀ passthrough₀ follower₀ i₀ exclusive-initiator exclusive-follower passthrough follower i =
-    (i ≤ 8)
-    × (exclusive-initiator ≡ any (inRole isExclusiveInitiator) (without but (take i (self .slots))))
-    × (exclusive-follower ≡ any (inRole isExclusiveFollower) (without but (take i (self .slots))))
-    × (passthrough ≡ any (inRole isPassthrough) (without but (take i (self .slots))))
-    × (follower ≡ any (inRole isFollower) (without but (take i (self .slots))))
+roles-of-others-requires : tie.Need-roles-of-others-requires
+roles-of-others-requires c κs = search needs
 
-abbrev μ-loop : tie.MeasureT-loop
-μ-loop but self b exclusive-initiator₀ exclusive-follower₀ passthrough₀ follower₀ i₀ exclusive-initiator exclusive-follower passthrough follower i = 8 - i
-
-loop-holds : tie.Need-loop-holds Inv-loop μ-loop
-loop-holds c = (omega arith, refl, refl, refl, refl)
-
-mul-x : tie.Need-mul-x Inv-loop μ-loop
-mul-x c = search needs
-
-element-copy-out-x : tie.Need-element-copy-out-x Inv-loop μ-loop
-element-copy-out-x c = search needs
-
-is-exclusive-initiator-requires : tie.Need-is-exclusive-initiator-requires Inv-loop μ-loop
-is-exclusive-initiator-requires c κs = search needs
-
-is-exclusive-follower-requires : tie.Need-is-exclusive-follower-requires Inv-loop μ-loop
-is-exclusive-follower-requires c κs = search needs
-
-is-passthrough-requires : tie.Need-is-passthrough-requires Inv-loop μ-loop
-is-passthrough-requires c κs = search needs
-
-is-follower-requires : tie.Need-is-follower-requires Inv-loop μ-loop
-is-follower-requires c κs = search needs
-
-add-i : tie.Need-add-i Inv-loop μ-loop
-add-i c = search needs
-
-loop-less : tie.Need-loop-less Inv-loop μ-loop
-loop-less c = search needs
-
-loop-again : tie.Need-loop-again Inv-loop μ-loop
-loop-again c =
-    let a = c .before .before .before .before .before .before .before .before .before .before .before .args in
-    let l = c .before .before .before .before .before .before .before .before .before .before .loop in
-    let long = handles-long (a .t1) _ (c .before .before .before .before .before .before .before .before .before .before .before .good .0) in
-    let h : l .i < length (a .t1 .slots) = omega arith in (
-      omega arith,
-      role-next isExclusiveInitiator (a .t1 .slots) (a .but) (l .i) _ _ h (l .inv .1) (c .before .before .before .before .before .before .before .is-exclusive-initiator .ensures),
-      role-next isExclusiveFollower (a .t1 .slots) (a .but) (l .i) _ _ h (l .inv .2) (c .before .before .before .before .before .is-exclusive-follower .ensures),
-      role-next isPassthrough (a .t1 .slots) (a .but) (l .i) _ _ h (l .inv .3) (c .before .before .before .is-passthrough .ensures),
-      role-next isFollower (a .t1 .slots) (a .but) (l .i) _ _ h (l .inv .4) (c .before .is-follower .ensures),
-    )
-
-returns : tie.Need-returns Inv-loop μ-loop
+returns : tie.Need-returns
 returns c =
-    let a = c .before .before .args in
-    let l = c .before .loop in
-    let long = handles-long (a .t1) _ (c .before .before .good .0) in
-    let t = take-all (l .i) (a .t1 .slots) (omega arith) in
-    rw (l .inv .1, l .inv .2, l .inv .3, l .inv .4, t)
+    let x = c .before .args .self in
+    c .roles-of-others .ensures ∙ ap rolesOf (without-past 8 (handlesOf x) (omega (arith, handles-long x _ (c .before .good .0))))
 
 pub roles-spec : {M : Type 1} → statement M
-roles-spec =
-    tie.close
-    (tie.spec
-    Inv-loop
-    μ-loop
-    loop-holds
-    mul-x
-    element-copy-out-x
-    is-exclusive-initiator-requires
-    is-exclusive-follower-requires
-    is-passthrough-requires
-    is-follower-requires
-    add-i
-    loop-less
-    loop-again
-    returns)
+roles-spec = tie.close (tie.spec roles-of-others-requires returns)

@@ -6,14 +6,15 @@ use lib.Seq.{set-out}
 use borrow.Author.Needs.{needs}
 use Rattle.inbox.proofs.Arrays.{inboxes-long}
 use Rattle.inbox.specs.Inboxes.{inboxesOf}
-use Rattle.lists.specs.Blocks.{parts-clear}
+use Rattle.lists.specs.Blocks.{length-parts, parts-clear}
 use Rattle.inbox.proofs.Inboxes.clear.Statement.{statement}
 use Rattle.inbox.proofs.Inboxes.clear.Tie as tie
 
 returns : tie.Need-returns
 returns c =
     let a = c .before .args in
-    sym (set-out (inboxesOf (a .t1)) (a .handle) [] (omega (arith, inboxes-long (a .t1) _ (c .before .good .0))))
+    let long = inboxes-long (a .t1) _ (c .before .good .0) in
+    sym (set-out (inboxesOf (a .t1)) (a .handle) [] (omega (arith, length-parts 16 (a .t1 .counts) (a .t1 .entries), long .counts)))
 
 mul-self : tie.Need-mul-self
 mul-self c = search needs

@@ -1,30 +1,11 @@
 -- `inbox::Inboxes::put` meets its contract. Assumes nothing.
-use mathlib.Core.Path.{refl, _∙_}
-use native.Mathlib.Omega.{arith}
 use borrow.Author.Needs.{needs}
-use Rattle.inbox.proofs.Arrays.{entries-long, inboxes-long}
-use Rattle.inbox.specs.Inboxes.{inboxesOf, delivered-past, delivered-full, delivered-room}
-use Rattle.lists.specs.Blocks.{length-part, parts-put}
+use Rattle.inbox.proofs.Arrays.{inboxes-long, left-out, room-within, stored}
 use Rattle.inbox.proofs.Inboxes.put.Statement.{statement}
 use Rattle.inbox.proofs.Inboxes.put.Tie as tie
 
-returns : tie.Need-returns
-returns c =
-    let a = c .before .args in
-    delivered-past (inboxesOf (a .t1)) (a .handle) (a .entry) (omega (arith, inboxes-long (a .t1) _ (c .before .good .0)))
-
-mul-n : tie.Need-mul-n
-mul-n c = search needs
-
-element-copy-out-n : tie.Need-element-copy-out-n
-element-copy-out-n c = search needs
-
-returns-2 : tie.Need-returns-2
-returns-2 c =
-    let a = c .before .before .before .args in
-    let long = entries-long (a .t1) _ (c .before .before .before .good .0) in
-    let e = length-part 16 (a .t1 .counts) (a .t1 .entries) (a .handle) (omega arith) in
-    delivered-full (inboxesOf (a .t1)) (a .handle) (a .entry) (omega arith)
+count-at-requires : tie.Need-count-at-requires
+count-at-requires c κs = search needs
 
 mul-entry : tie.Need-mul-entry
 mul-entry c = search needs
@@ -36,7 +17,7 @@ mul-entry-2 : tie.Need-mul-entry-2
 mul-entry-2 c = search needs
 
 element-set-from-entry : tie.Need-element-set-from-entry
-element-set-from-entry c = search needs
+element-set-from-entry c = room-within _ _ (c .if1 .taken) .2
 
 add-self : tie.Need-add-self
 add-self c = search needs
@@ -45,24 +26,27 @@ mul-self : tie.Need-mul-self
 mul-self c = search needs
 
 element-write-self : tie.Need-element-write-self
-element-write-self c = search needs
+element-write-self c = room-within _ (c .before .count-at .result) (c .if1 .taken) .0
 
-returns-3 : tie.Need-returns-3
-returns-3 c =
-    let a = c .before .before .before .args in
-    let long = entries-long (a .t1) _ (c .before .before .before .good .0) in
-    let e = length-part 16 (a .t1 .counts) (a .t1 .entries) (a .handle) (omega arith) in
-    parts-put 16 (a .t1 .counts) (a .t1 .entries) (a .handle) _ (a .entry) refl (omega arith) (omega arith)
-    ∙ delivered-room (inboxesOf (a .t1)) (a .handle) (a .entry) (omega arith)
+returns : tie.Need-returns
+returns c =
+    let start = c .before .before .before in
+    let b = start .args .t1 in
+    let n = c .before .count-at in
+    stored (b .entries) (b .counts) (inboxes-long b _ (start .good .0)) (start .args .handle) (n .result) (start .args .entry) (n .ensures .0) (c .if1 .taken)
+
+returns-2 : tie.Need-returns-2
+returns-2 c =
+    let start = c .before .before .before in
+    let b = start .args .t1 in
+    let n = c .before .count-at in
+    left-out (b .entries) (b .counts) (inboxes-long b _ (start .good .0)) (start .args .handle) (n .result) (start .args .entry) (n .ensures .0) (c .if1 .left)
 
 pub put-spec : {M : Type 1} → statement M
 put-spec =
     tie.close
     (tie.spec
-    returns
-    mul-n
-    element-copy-out-n
-    returns-2
+    count-at-requires
     mul-entry
     add-entry
     mul-entry-2
@@ -70,4 +54,5 @@ put-spec =
     add-self
     mul-self
     element-write-self
-    returns-3)
+    returns
+    returns-2)

@@ -1,20 +1,20 @@
 -- `message::Message::is_reply` meets its contract. Assumes nothing.
 use borrow.Author.Needs.{needs}
-use Rattle.message.specs.Head.{heads-match}
+use Rattle.message.specs.Prefix.{prefixes-match}
 use Rattle.message.proofs.Message.is_reply.Statement.{statement}
 use Rattle.message.proofs.Message.is_reply.Tie as tie
 
-head-requires : tie.Need-head-requires
-head-requires c κs = search needs
+prefix-requires : tie.Need-prefix-requires
+prefix-requires c κs = search needs
 
-head-requires-2 : tie.Need-head-requires-2
-head-requires-2 c κs = search needs
+prefix-requires-2 : tie.Need-prefix-requires-2
+prefix-requires-2 c κs = search needs
 
-heads-match-requires : tie.Need-heads-match-requires
-heads-match-requires c κs = search needs
+prefixes-match-requires : tie.Need-prefixes-match-requires
+prefixes-match-requires c κs = search needs
 
 returns : tie.Need-returns
-returns c = rw (c .heads-match .ensures, c .before .head2 .ensures, c .before .before .head .ensures, heads-match)
+returns c = rw (c .prefixes-match .ensures, c .before .prefix2 .ensures, c .before .before .prefix .ensures, prefixes-match)
 
 pub is-reply-spec : {M : Type 1} → statement M
-is-reply-spec = tie.close (tie.spec head-requires head-requires-2 heads-match-requires returns)
+is-reply-spec = tie.close (tie.spec prefix-requires prefix-requires-2 prefixes-match-requires returns)

@@ -15,14 +15,11 @@ Inv-loop length held kept₀ i₀ kept i = (held ≤ i) × (i ≤ 16) × (kept �
 abbrev μ-loop : tie.MeasureT-loop
 μ-loop length held kept₀ i₀ kept i = 16 - i
 
-at-most-16-requires : tie.Need-at-most-16-requires Inv-loop μ-loop
-at-most-16-requires c κs = search needs
-
-cast-i : tie.Need-cast-i Inv-loop μ-loop
-cast-i c = search needs
+at-most-requires : tie.Need-at-most-requires Inv-loop μ-loop
+at-most-requires c κs = search needs
 
 loop-holds : tie.Need-loop-holds Inv-loop μ-loop
-loop-holds c = (omega arith, omega arith, fill-start 0 (c .at-most-16 .result) (c .before .args .bytes))
+loop-holds c = (omega arith, omega arith, fill-start 0 (c .at-most .result) (c .before .args .bytes))
 
 array-write-kept : tie.Need-array-write-kept Inv-loop μ-loop
 array-write-kept c = search needs
@@ -38,8 +35,11 @@ loop-again c =
     let l = c .before .loop in (
       omega arith,
       omega arith,
-      rw (l .inv .2) (fill-next 0 (c .before .before .at-most-16 .result) (l .i) (c .before .before .before .args .bytes) (omega arith) (search needs)),
+      rw (l .inv .2) (fill-next 0 (c .before .before .at-most .result) (l .i) (c .before .before .before .args .bytes) (omega arith) (search needs)),
     )
+
+cast-t10 : tie.Need-cast-t10 Inv-loop μ-loop
+cast-t10 c = search needs
 
 returns : tie.Need-returns Inv-loop μ-loop
 unfolding message
@@ -48,9 +48,9 @@ returns c =
     let bs = c .before .before .before .args .bytes in
     let full : l .i ≡ 16 = omega arith in
     let long : length bs ≡ 16 = search needs in
-    rw (l .inv .2, full, fill-end 0 (c .before .before .at-most-16 .result) 16 bs (omega arith), c .before .before .at-most-16 .ensures)
+    rw (l .inv .2, full, fill-end 0 (c .before .before .at-most .result) 16 bs (omega arith), c .before .before .at-most .ensures .0)
 
 pub new-spec : {M : Type 1} → statement M
 new-spec =
     tie.close
-    (tie.spec Inv-loop μ-loop at-most-16-requires cast-i loop-holds array-write-kept add-i loop-less loop-again returns)
+    (tie.spec Inv-loop μ-loop at-most-requires loop-holds array-write-kept add-i loop-less loop-again cast-t10 returns)

@@ -27,7 +27,12 @@ none-noted-requires c κs = search needs
 
 returns : tie.Need-returns
 unfolding fresh
-returns c = rw (c .before .before .before .before .before .before .before .before .empty .ensures, c .before .before .before .before .before .empty2 .ensures, c .before .before .before .before .idle .ensures, c .before .before .before .empty3 .ensures, c .before .before .all-closed .ensures, c .before .no-settings .ensures, c .none-noted .ensures)
+returns c =
+    let waits = c .before .before .before in
+    let queue = waits .before .before in
+    let inboxes = queue .before .before .before in
+    rw (inboxes .empty .ensures, queue .empty2 .ensures, waits .before .idle .ensures, waits .empty3 .ensures)
+    (rw (c .before .before .all-closed .ensures, c .before .no-settings .ensures, c .none-noted .ensures))
 
 pub fresh-spec : {M : Type 1} → statement M
 fresh-spec =

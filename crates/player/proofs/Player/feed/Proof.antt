@@ -24,10 +24,13 @@ use Rattle.player.proofs.Player.feed.Statement.{statement}
 use Rattle.player.proofs.Player.feed.Tie as tie
 
 abbrev Inv-loop : tie.InvT-loop
-Inv-loop portion out₀ size played₀ bytes₀ cursor₀ taken₀ written₀ out played bytes cursor taken written = Feeding (sessionWith (stateOf (played₀ .adapter)) bytes₀ cursor₀) portion out₀ (sessionWith (stateOf (played .adapter)) bytes cursor) taken written out × (length bytes ≡ 28)
+Inv-loop portion out₀ played₀ bytes₀ cursor₀ taken₀ written₀ out played bytes cursor taken written =
+    let before = sessionWith (stateOf (played₀ .adapter)) bytes₀ cursor₀ in
+    let now = sessionWith (stateOf (played .adapter)) bytes cursor in
+    Feeding before portion out₀ now taken written out × (length bytes ≡ 28)
 
 abbrev μ-loop : tie.MeasureT-loop
-μ-loop portion out₀ size played₀ bytes₀ cursor₀ taken₀ written₀ out played bytes cursor taken written = length portion - taken
+μ-loop portion out₀ played₀ bytes₀ cursor₀ taken₀ written₀ out played bytes cursor taken written = length portion - taken
 
 refused-requires : tie.Need-refused-requires Inv-loop μ-loop
 refused-requires c κs = search needs
@@ -43,7 +46,12 @@ nothing-requires : tie.Need-nothing-requires Inv-loop μ-loop
 nothing-requires c κs = search needs
 
 loop-holds : tie.Need-loop-holds Inv-loop μ-loop
-loop-holds c = (start _ (c .before .before .before .before .before .before .args .portion .now) (c .before .before .before .before .before .before .args .out .now), player-long (c .before .before .before .before .before .before .args .self) _ (c .before .before .before .before .before .before .good .0))
+loop-holds c =
+    let s = c .before .before .before .before .before .before in
+    (start _ (s .args .portion .now) (s .args .out .now), player-long (s .args .self) _ (s .good .0))
+
+sub-if3 : tie.Need-sub-if3 Inv-loop μ-loop
+sub-if3 c = search needs
 
 sub-gather : tie.Need-sub-gather Inv-loop μ-loop
 sub-gather c = search needs
@@ -55,7 +63,10 @@ part-gather-end : tie.Need-part-gather-end Inv-loop μ-loop
 part-gather-end c = search needs
 
 gather-requires : tie.Need-gather-requires Inv-loop μ-loop
-gather-requires c κs = search needs
+gather-requires c κs =
+    let l = c .before .before .before .before .before .before in
+    let p = l .before .before .before .before .before .before .before .args .portion .now in
+    (search needs, rw (all-left p (l .loop .taken)) (omega (arith, length-drop (l .loop .taken) p)))
 
 add-taken : tie.Need-add-taken Inv-loop μ-loop
 add-taken c = search needs
@@ -110,30 +121,38 @@ unconfigure-requires c κs = search needs
 
 show-requires : tie.Need-show-requires Inv-loop μ-loop
 show-requires c κs =
-    let l = c .before .before .before .before .before .before .before .before .before .before .before .before .before .loop in
-    let a = c .before .before .before .before .before .before .before .before .before .before .before .before .before .before .before .before .before .before .before .before .args in
-    omega (arith, leb-true (l .written) (length (a .out .now) - 29) (c .before .before .before .before .before .before .before .before .before .if3 .taken), l .inv .0 .long, c .before .before .before .before .before .before .before .before .before .before .before .before .before .before .before .before .before .if1 .left)
+    let g = c .before .before .before .before .before in
+    let fits = g .before .before .before in
+    let l = fits .before .before .before .before in
+    omega (arith, leb-true (l .loop .written) (length (l .loop .out) - 29) (fits .if3 .taken), l .loop .inv .0 .long, l .before .before .before .before .if1 .left)
 
 loop-less : tie.Need-loop-less Inv-loop μ-loop
 loop-less c =
-    let g = c .before .before .before .before .before .before .before .before .before in
+    let j = c .before .before .before .before in
+    let g = j .before .before .before .before in
     let b = g .before .before .before .before .before .before .before in
     let p = b .before .before .before .before .before .before .before .args .portion .now in
     let l = b .loop in
-    let i = c .before .before .before .before .before .before .before .before .before .before .before .before .before .before .before .loop-test .taken in
-    let m : gathered (take (l .cursor .count) (l .bytes)) (drop (l .taken) p) ≡ g .gather .result = rw (all-left p (l .taken)) at (g .gather .ensures .1 .0) in
-    let k = gathered-some (take (l .cursor .count) (l .bytes)) (drop (l .taken) p) (omega (arith, length-drop (l .taken) p)) in
+    let i = g .before .before .before .before .before .before .loop-test .taken in
+    let held = take (l .cursor .count) (l .bytes) in
+    let rest = drop (l .taken) p in
+    let m : gathered held rest ≡ g .gather .result = rw (all-left p (l .taken)) at (g .gather .ensures .1 .0) in
+    let k = gathered-some held rest (omega (arith, length-drop (l .taken) p)) in
     omega arith
 
 loop-again : tie.Need-loop-again Inv-loop μ-loop
 loop-again c =
-    let j = c .before .before .before .before .before in
+    let j = c .before .before .before .before in
     let x = j .before .before in
     let g = x .before .before in
     let t = g .before .before .before in
     let b = t .before .before .before .before in
     let l = b .loop in
     let a = b .before .before .before .before .before .before .before .args in
+    let p = a .portion .now in
+    let held = take (l .cursor .count) (l .bytes) in
+    let rest = drop (l .taken) p in
+    let whole = all-left p (l .taken) in
     let st = stateOf (l .played .adapter) in
     let bytes = g .gather .last .0 in
     let call = x .call .result in
@@ -160,17 +179,22 @@ loop-again c =
     (λ w. follows st bytes call 9 (j .match .played) (w .1 .result) (w .0 .keys10) (w .2) (w .1 .ensures))
     (λ w. ⊎-elim
     (λ w. follows st bytes call 10 (j .match .played) (w .1 .result) (w .0 .keys11) (w .2) (w .1 .ensures))
-    (λ w. let r = w .0 .rest in follows-none (l .played) bytes call (j .match .played) (no-call call (x .call .ensures .1) (r .0 .0 .0 .0 .0 .0 .0 .0 .0 .0 .1) (r .0 .0 .0 .0 .0 .0 .0 .0 .0 .1) (r .0 .0 .0 .0 .0 .0 .0 .0 .1) (r .0 .0 .0 .0 .0 .0 .0 .1) (r .0 .0 .0 .0 .0 .0 .1) (r .0 .0 .0 .0 .0 .1) (r .0 .0 .0 .0 .1) (r .0 .0 .0 .1) (r .0 .0 .1) (r .0 .1) (r .1)) (w .1)) w) w) w) w) w) w) w) w) w) w)
+    (λ w. let r = w .0 .rest in
+    let six = r .0 .0 .0 .0 .0 in
+    let n = no-call call (x .call .ensures .1) (six .0 .0 .0 .0 .0 .1) (six .0 .0 .0 .0 .1) (six .0 .0 .0 .1) (six .0 .0 .1) (six .0 .1) (six .1)
+    (r .0 .0 .0 .0 .1) (r .0 .0 .0 .1) (r .0 .0 .1) (r .0 .1) (r .1) in
+    follows-none (l .played) bytes call (j .match .played) n (w .1)) w) w) w) w) w) w) w) w) w) w)
     (j .match .came) in
-    let d : gather (take (l .cursor .count) (l .bytes)) (drop (l .taken) (a .portion .now)) ≡ take (atMost28 (l .cursor .count) + g .gather .result) bytes = rw (all-left (a .portion .now) (l .taken)) at (g .gather .ensures .0) in
+    let d : gather held rest ≡ take (atMost28 (l .cursor .count) + g .gather .result) bytes = rw whole at (g .gather .ensures .0) in
     let o : l .cursor .ended ≡ false = not-true (l .cursor .ended) (t .before .if2 .taken) in
-    let v : l .written + 29 ≤ length (a .out .now) = omega (arith, leb-true (l .written) (length (a .out .now) - 29) (t .if3 .taken), b .before .before .before .before .if1 .left) in
-    let m : gathered (take (l .cursor .count) (l .bytes)) (drop (l .taken) (a .portion .now)) ≡ g .gather .result = rw (all-left (a .portion .now) (l .taken)) at (g .gather .ensures .1 .0) in
-    let k : g .gather .result ≤ length (drop (l .taken) (a .portion .now)) = rw (all-left (a .portion .now) (l .taken)) at (g .gather .ensures .1 .1 .1 .0) in
+    let fits = leb-true (l .written) (length (l .out) - 29) (t .if3 .taken) in
+    let v : l .written + 29 ≤ length (a .out .now) = omega (arith, l .inv .0 .long, b .before .before .before .before .if1 .left) in
+    let m : gathered held rest ≡ g .gather .result = rw whole at (g .gather .ensures .1 .0) in
+    let k : g .gather .result ≤ length rest = rw whole at (g .gather .ensures .1 .1 .1 .0) in
     let n = c .before .before .show in (
-      after-turn st (l .bytes) (l .cursor) (a .portion .now) (l .taken) (g .gather .result) (x .before .held .result) call bytes (j .before .next .result) (j .match .played)
+      after-turn st (l .bytes) (l .cursor) p (l .taken) (g .gather .result) (x .before .held .result) call bytes (j .before .next .result) (j .match .played)
           (l .inv .1) (g .gather .ensures .1 .1 .0) (t .before .before .before .loop-test .taken) (x .before .held .ensures .0) d m (x .call .ensures .0) (j .before .next .ensures) w
-          _ (a .out .now) (l .out) (l .written) (n .result) (n .last .1 .1 .1 .1 .0) (l .inv .0) o v k (n .ensures),
+          _ (a .out .now) (l .out) (l .written) (n .result) (n .last .0) (l .inv .0) o v k (n .ensures),
       g .gather .ensures .1 .1 .0,
     )
 
@@ -191,12 +215,14 @@ returns-2 c =
     let z = sessionWith (stateOf (l .played .adapter)) (l .bytes) (l .cursor) in
     let i : taken z (drop (l .taken) p) (length o - l .written) ≡ idle z =
     ⊎-elim
-    (λ w. idle-short z (drop (l .taken) p) (length o - l .written) (omega (arith, leb-false (l .written) (length o - 29) (w .3 .left))))
+    (λ w. idle-short z (drop (l .taken) p) (length o - l .written) (omega (arith, leb-false (l .written) (length (l .out) - 29) (w .3 .left), l .inv .0 .long)))
     (λ w. ⊎-elim
     (λ w. idle-ended z (drop (l .taken) p) (length o - l .written) (not-false (l .cursor .ended) (w .2 .left)))
     (λ w. idle-done z p (l .taken) (length o - l .written) (w .left)) w)
     (c .before .loop-test .came) in
-    rw (c .after .ensures) (has-room o (omega arith), (ends _ p o z (l .taken) (l .written) (l .out) (l .inv .0) i ∙ ap (λ (x : Adapter). givenBy (taken (sessionWith (stateOf x) (a .self .bytes) (a .self .cursor)) p (length o)) o) (b .nothing .ensures .0), ((λ q. absurd (q refl)), (l .inv .0 .within, omega (arith, l .inv .0 .long, l .inv .0 .room)))))
+    let same = ap (λ (x : Adapter). givenBy (taken (sessionWith (stateOf x) (a .self .bytes) (a .self .cursor)) p (length o)) o) (b .nothing .ensures .0) in
+    let given = ends _ p o z (l .taken) (l .written) (l .out) (l .inv .0) i ∙ same in
+    rw (c .after .ensures) (has-room o (omega arith), (given, ((λ q. absurd (q refl)), (l .inv .0 .within, omega (arith, l .inv .0 .long, l .inv .0 .room)))))
 
 pub feed-spec : {M : Type 1} → statement M
 feed-spec =
@@ -208,6 +234,7 @@ feed-spec =
     returns
     nothing-requires
     loop-holds
+    sub-if3
     sub-gather
     part-gather-start
     part-gather-end

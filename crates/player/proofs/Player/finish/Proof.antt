@@ -1,8 +1,8 @@
 -- `player::Player::finish` meets its contract. Assumes nothing.
 use native.Mathlib.Omega.{arith}
 use Rattle.player.specs.Player.{sessionOf}
-use Rattle.text.specs.Line.{textOf}
-use Rattle.player.proofs.Printing.{put-long, no-room, has-room, nothing-cut, cut, player-long}
+use Rattle.text.proofs.Puts.{put-long}
+use Rattle.player.proofs.Printing.{no-room, has-room, nothing-cut, cut, player-long}
 use borrow.Author.Needs.{needs}
 use Rattle.player.proofs.Player.finish.Statement.{statement}
 use Rattle.player.proofs.Player.finish.Tie as tie
@@ -22,21 +22,18 @@ returns-2 c =
 cut-line-requires : tie.Need-cut-line-requires
 cut-line-requires c κs = search needs
 
-print-requires : tie.Need-print-requires
-print-requires c κs = search needs
-
 same-length : tie.Need-same-length
 same-length c = search needs
 
 returns-3 : tie.Need-returns-3
 returns-3 c =
-    let e = c .before .before .before .before .before in
+    let l = c .before .before in
+    let e = l .before .before in
     let s = e .before .before .before .before .before .before in
-    let p = c .before .before .print in
-    let l = c .before .before .before .before .cut-line in
-    let n = cut (s .args .out .now) (s .args .self) (textOf (l .result)) (p .result) (p .last .1 .0) (player-long (s .args .self) _ (s .good .0)) (omega arith) (e .if2 .left) (l .ensures) (p .ensures) in
-    (has-room (s .args .out .now) (omega arith), (n .0, (n .1, omega (arith, put-long (s .args .out .now) 0 (textOf (l .result)) (p .result) (p .last .1 .0) (omega arith) (p .ensures), p .ensures .1 .0))))
+    let p = l .cut-line .ensures .fits (omega arith) in
+    let n = cut (s .args .out .now) (s .args .self) (player-long (s .args .self) _ (s .good .0)) (omega arith) (e .if2 .left) p in
+    (has-room (s .args .out .now) (omega arith), (n .0, (n .1, omega (arith, put-long p, p .room))))
 
 pub finish-spec : {M : Type 1} → statement M
 finish-spec =
-    tie.close (tie.spec returns returns-2 cut-line-requires print-requires same-length returns-3)
+    tie.close (tie.spec returns returns-2 cut-line-requires same-length returns-3)

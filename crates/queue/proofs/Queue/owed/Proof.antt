@@ -14,7 +14,12 @@ use Rattle.queue.proofs.Queue.owed.Statement.{statement}
 use Rattle.queue.proofs.Queue.owed.Tie as tie
 
 abbrev Inv-loop : tie.InvT-loop
-Inv-loop handle self n room₀ replies₀ i₀ room replies i = (i ≤ n) × (room ≡ sum (roomFor handle) (take i (self .slots))) × (replies ≡ sum (replyFor handle) (take i (self .slots))) × (room ≤ 2 * i) × (replies ≤ i)
+Inv-loop handle self n room₀ replies₀ i₀ room replies i =
+    (i ≤ n)
+    × (room ≡ sum (roomFor handle) (take i (self .slots)))
+    × (replies ≡ sum (replyFor handle) (take i (self .slots)))
+    × (room ≤ 2 * i)
+    × (replies ≤ i)
 
 abbrev μ-loop : tie.MeasureT-loop
 μ-loop handle self n room₀ replies₀ i₀ room replies i = n - i

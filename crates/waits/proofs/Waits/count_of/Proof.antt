@@ -12,10 +12,10 @@ use Rattle.waits.proofs.Waits.count_of.Statement.{statement}
 use Rattle.waits.proofs.Waits.count_of.Tie as tie
 
 abbrev Inv-loop : tie.InvT-loop
-Inv-loop handle self n of₀ i₀ of i = (i ≤ n) × (of ≡ count (ownedBy handle) (take i (self .slots))) × (of ≤ i)
+Inv-loop handle self n owned₀ i₀ owned i = (i ≤ n) × (owned ≡ count (ownedBy handle) (take i (self .slots))) × (owned ≤ i)
 
 abbrev μ-loop : tie.MeasureT-loop
-μ-loop handle self n of₀ i₀ of i = n - i
+μ-loop handle self n owned₀ i₀ owned i = n - i
 
 count-requires : tie.Need-count-requires Inv-loop μ-loop
 count-requires c κs = search needs
@@ -32,8 +32,8 @@ element-copy-out-owned-by c = search needs
 owned-by-requires : tie.Need-owned-by-requires Inv-loop μ-loop
 owned-by-requires c κs = search needs
 
-add-of : tie.Need-add-of Inv-loop μ-loop
-add-of c = search needs
+add-owned : tie.Need-add-owned Inv-loop μ-loop
+add-owned c = search needs
 
 add-i : tie.Need-add-i Inv-loop μ-loop
 add-i c = search needs
@@ -44,8 +44,9 @@ loop-less c = search needs
 loop-again : tie.Need-loop-again Inv-loop μ-loop
 loop-again c =
     let a = c .before .before .before .before .before .args in
+    let e = c .before .before .before .before .count .ensures .0 in
     let l = c .before .before .before .loop in
-    (omega arith, sum-passed (a .t1 .slots) (a .t1 .count) _ (c .before .before .before .before .count .ensures .0) (λ w. bit (ownedBy (a .handle) w)) (l .i) _ (l .of) _ (omega arith) (l .inv .1) (c .owned-by .ensures .0), omega arith)
+    (omega arith, sum-passed (a .t1 .slots) (a .t1 .count) _ e (λ w. bit (ownedBy (a .handle) w)) (l .i) _ (l .owned) _ (omega arith) (l .inv .1) (c .owned-by .ensures .0), omega arith)
 
 returns : tie.Need-returns Inv-loop μ-loop
 returns c =
@@ -64,7 +65,7 @@ count-of-spec =
     mul-owned-by
     element-copy-out-owned-by
     owned-by-requires
-    add-of
+    add-owned
     add-i
     loop-less
     loop-again

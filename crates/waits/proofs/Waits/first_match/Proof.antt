@@ -35,8 +35,10 @@ answered-by-requires c κs = search needs
 returns : tie.Need-returns Inv-loop μ-loop
 returns c =
     let a = c .before .before .before .before .before .before .args in
+    let e = c .before .before .before .before .before .count .ensures .0 in
     let l = c .before .before .before .before .loop in
-    sym (first-found (a .t1 .slots) (a .t1 .count) _ (c .before .before .before .before .before .count .ensures .0) (answeredBy (a .message)) (l .place) _ (omega arith) (l .inv .1) (sym (c .before .answered-by .ensures) ∙ c .if1 .taken))
+    let found = sym (c .before .answered-by .ensures) ∙ c .if1 .taken in
+    sym (first-found (a .t1 .slots) (a .t1 .count) _ e (answeredBy (a .message)) (l .place) _ (omega arith) (l .inv .1) found)
 
 add-place : tie.Need-add-place Inv-loop μ-loop
 add-place c = search needs
@@ -47,8 +49,10 @@ loop-less c = search needs
 loop-again : tie.Need-loop-again Inv-loop μ-loop
 loop-again c =
     let a = c .before .before .before .before .before .before .args in
+    let e = c .before .before .before .before .before .count .ensures .0 in
     let l = c .before .before .before .before .loop in
-    (omega arith, any-passed (a .t1 .slots) (a .t1 .count) _ (c .before .before .before .before .before .count .ensures .0) (answeredBy (a .message)) (l .place) _ (omega arith) (l .inv .1) (sym (c .before .answered-by .ensures) ∙ c .if1 .left))
+    let passed = sym (c .before .answered-by .ensures) ∙ c .if1 .left in
+    (omega arith, any-passed (a .t1 .slots) (a .t1 .count) _ e (answeredBy (a .message)) (l .place) _ (omega arith) (l .inv .1) passed)
 
 returns-2 : tie.Need-returns-2 Inv-loop μ-loop
 returns-2 c =

@@ -1,8 +1,7 @@
 -- `waits::Waits::without` meets its contract. Assumes nothing.
-use Prim.Native.Nat.{_≤_, _<_, _-_, _+_}
+use Prim.Native.Nat.{_≤_, _-_, _+_}
 use mathlib.Core.Path.{_≡_, sym, ap}
 use native.Mathlib.Omega.{arith}
-use lib.ListN.{length}
 use borrow.Author.Needs.{needs}
 use Rattle.lists.specs.Vector.{within-slots, shifted, shift-start, shift-next, shift-out}
 use Rattle.lists.specs.Places.{without-past}

@@ -1,0 +1,53 @@
+-- `incoming::later_steps` meets its contract. Assumes nothing.
+use borrow.Author.Needs.{needs}
+use Rattle.incoming.proofs.later_steps.Statement.{statement}
+use Rattle.incoming.proofs.later_steps.Tie as tie
+
+first-match-requires : tie.Need-first-match-requires
+first-match-requires c κs = search needs
+
+count-requires : tie.Need-count-requires
+count-requires c κs = search needs
+
+at-requires : tie.Need-at-requires
+at-requires c κs = search needs
+
+work-for-requires : tie.Need-work-for-requires
+work-for-requires c κs = search needs
+
+choose-requires : tie.Need-choose-requires
+choose-requires c κs = search needs
+
+sent-requires : tie.Need-sent-requires
+sent-requires c κs = search needs
+
+follower-kind-requires : tie.Need-follower-kind-requires
+follower-kind-requires c κs = search needs
+
+receivers-requires : tie.Need-receivers-requires
+receivers-requires c κs = search needs
+
+returns : tie.Need-returns
+returns c =
+    let chooses = c .before .before .before .before .before .before .before in
+    let works = chooses .before .before in
+    let finds = works .before in
+    let counts = finds .before in
+    let sends = c .before .before .before in
+    rw
+    (c .receivers .ensures, c .before .follower-kind .ensures, sends .sent .ensures, chooses .choose .ensures, works .work-for .ensures)
+    (rw (finds .at .ensures, counts .count .ensures .0, counts .before .first-match .ensures))
+
+pub later-steps-spec : {M : Type 1} → statement M
+later-steps-spec =
+    tie.close
+    (tie.spec
+    first-match-requires
+    count-requires
+    at-requires
+    work-for-requires
+    choose-requires
+    sent-requires
+    follower-kind-requires
+    receivers-requires
+    returns)
