@@ -27,7 +27,7 @@ module _ {A : Type 0} where
   pub length-held : (c k n : ℕ) (l : List A) → length l ≡ k → n ≡ min c k → n ≡ length (take c l)
   length-held c k n l e h = rw (length-take c l, e) h
 
-  pub length-over : (n k : ℕ) (l : List A) → length l ≡ k → k ≤ n → length (take n l) ≡ k
+  length-over : (n k : ℕ) (l : List A) → length l ≡ k → k ≤ n → length (take n l) ≡ k
   length-over n k l e h = sym (length-held n k k l e (omega arith))
 
   pub put-room : (k n : ℕ) (l : List A) (x : A) → length l ≡ k → n < k → take (n + 1) (set l n x) ≡ put k (take n l) x
