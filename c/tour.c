@@ -1,5 +1,5 @@
 /*
- * The camera program and the chart program share one wire, through the C header.
+ * The camera program and the chart program share one wire, and then a controller, through the C header.
  * It prints the lines of crates/tour/stdout.
  */
 #include "clothbadger.h"
@@ -14,7 +14,7 @@ enum { DISPLAY = 0, BOX = 4, AMPLIFIER = 5 };
 enum { SET_MENU_LANGUAGE = 0x32 };
 
 /* The handles that the programs get. */
-enum { CAMERA = 0, CHART = 1, MONITOR = 2 };
+enum { CAMERA = 0, CHART = 1, MONITOR = 2, CONTROLLER = 3 };
 
 static const struct cec_counts no_counts;
 
@@ -22,8 +22,8 @@ static struct cec_adapter adapter;
 
 static const char *program(uint8_t handle)
 {
-    static const char *const names[] = {"camera", "chart", "monitor"};
-    return names[handle < MONITOR ? handle : MONITOR];
+    static const char *const names[] = {"camera", "chart", "monitor", "controller"};
+    return names[handle < CONTROLLER ? handle : CONTROLLER];
 }
 
 static uint8_t header(uint8_t from, uint8_t to)
@@ -51,17 +51,16 @@ static void configure(void)
     printf("box: configure, errno %" PRIu32 "\n", cec_configure(&adapter, settings));
 }
 
-static void transmit(uint8_t handle, uint8_t from, uint8_t to, uint8_t opcode, uint8_t reply)
+static void transmit(uint8_t handle, struct cec_request request)
 {
-    struct cec_request request = {.length = 2, .bytes = {header(from, to), opcode}, .reply = reply};
     struct cec_transmit_answer answer = cec_transmit(&adapter, handle, request);
-    printf("%s: transmit to %u, errno %" PRIu32 ", number %" PRIu32 "\n", program(handle), to, answer.error, answer.sequence);
+    printf("%s: transmit to %u, errno %" PRIu32 ", number %" PRIu32 "\n", program(handle), request.bytes[0] & 15, answer.error, answer.sequence);
 }
 
 /* A device is asked for its power status. */
 static void ask(uint8_t handle, uint8_t device)
 {
-    transmit(handle, BOX, device, CEC_MSG_GIVE_DEVICE_POWER_STATUS, CEC_MSG_REPORT_POWER_STATUS);
+    transmit(handle, (struct cec_request){.length = 2, .bytes = {header(BOX, device), CEC_MSG_GIVE_DEVICE_POWER_STATUS}, .reply = CEC_MSG_REPORT_POWER_STATUS});
 }
 
 /* The next message goes out and comes to its end. */
@@ -78,10 +77,15 @@ static void come(uint8_t from, uint8_t to, uint8_t opcode, uint8_t third)
     cec_received(&adapter, (struct cec_message){.length = 3, .bytes = {header(from, to), opcode, third}});
 }
 
+static void show_message(uint8_t from, uint8_t opcode)
+{
+    printf("wire: message from %u, opcode %u\n", from, opcode);
+}
+
 /* A device answers the box. */
 static void answer_box(uint8_t from, uint8_t opcode, uint8_t third)
 {
-    printf("wire: message from %u, opcode %u\n", from, opcode);
+    show_message(from, opcode);
     come(from, BOX, opcode, third);
 }
 
@@ -124,7 +128,7 @@ static void both_ask(void)
 /* The display is woken before the box has an address. */
 static void wake(void)
 {
-    transmit(CAMERA, CEC_LOG_ADDR_UNREGISTERED, DISPLAY, CEC_MSG_IMAGE_VIEW_ON, 0);
+    transmit(CAMERA, (struct cec_request){.length = 2, .bytes = {header(CEC_LOG_ADDR_UNREGISTERED, DISPLAY), CEC_MSG_IMAGE_VIEW_ON}});
     send_next(CEC_TX_STATUS_OK, no_counts);
     receive(CAMERA);
 }
@@ -174,6 +178,11 @@ static void report(void)
     look_up(CEC_LOG_ADDR_BROADCAST);
 }
 
+static void set_mode(uint8_t handle, uint32_t mode)
+{
+    printf("%s: mode %" PRIu32 ", errno %" PRIu32 "\n", program(handle), mode, cec_set_mode(&adapter, handle, mode));
+}
+
 /* The listing's rows of the three programs. */
 static void list(void)
 {
@@ -188,13 +197,41 @@ static void list(void)
 static void watch(void)
 {
     open_handle(true);
-    printf("monitor: mode, errno %" PRIu32 "\n", cec_set_mode(&adapter, MONITOR, CEC_MODE_MONITOR));
+    set_mode(MONITOR, CEC_MODE_MONITOR);
     for (int i = 0; i < 18; i++)
         come(DISPLAY, CEC_LOG_ADDR_BROADCAST, SET_MENU_LANGUAGE, 0x65);
     puts("wire: 18 messages from 0 to all");
     list();
     receive(MONITOR);
     receive(CAMERA);
+}
+
+/* The display asks the box for its CEC version. */
+static void ask_version(void)
+{
+    show_message(DISPLAY, CEC_MSG_GET_CEC_VERSION);
+    cec_received(&adapter, (struct cec_message){.length = 2, .bytes = {header(DISPLAY, BOX), CEC_MSG_GET_CEC_VERSION}});
+}
+
+/* The controller tells it. */
+static void tell_version(void)
+{
+    transmit(CONTROLLER, (struct cec_request){.length = 3, .bytes = {header(BOX, DISPLAY), CEC_MSG_CEC_VERSION, CEC_OP_CEC_VERSION_1_4}});
+}
+
+/* The core leaves a question to the passthrough follower, which may answer it beside an exclusive initiator; others may not transmit. */
+static void control(void)
+{
+    open_handle(false);
+    set_mode(CONTROLLER, CEC_MODE_EXCL_FOLLOWER_PASSTHRU | CEC_MODE_INITIATOR);
+    set_mode(CAMERA, CEC_MODE_EXCL_INITIATOR);
+    ask_version();
+    receive(CONTROLLER);
+    ask(CHART, AMPLIFIER);
+    tell_version();
+    send_next(CEC_TX_STATUS_OK, no_counts);
+    receive(CONTROLLER);
+    set_mode(CAMERA, CEC_MODE_INITIATOR);
 }
 
 /* One transmit waits for its reply, one is queued: the address is taken away. */
@@ -222,6 +259,7 @@ int main(void)
     not_taken();
     report();
     watch();
+    control();
     unconfigure();
     return 0;
 }

@@ -1,5 +1,6 @@
-// The known answers of document 01, asked of the code: one line for each case with what it gave.
+// The known answers of document 01, and those of W-202, asked of the code: one line for each case with what it gave.
 use adapter::Adapter;
+use constants::CEC_MODE_EXCL_INITIATOR;
 use constants::CEC_TX_STATUS_OK;
 use entry::Counts;
 use queue::Queue;
@@ -153,13 +154,27 @@ fn next_after_last() -> u32 {
     traffic::next_sequence(Queue::empty(), Wire::idle(), Waits::empty(), 4294967295)
 }
 
-fn main() {
+// Handle 0, in this mode, transmits beside handle 1 as exclusive initiator (W-202).
+fn beside(mode: u32) -> u32 {
+    bench(true)
+        .set_mode(0, mode)
+        .adapter
+        .open(false)
+        .adapter
+        .set_mode(1, CEC_MODE_EXCL_INITIATOR)
+        .adapter
+        .transmit(0, request(2, 0x40, 0x8F, 0))
+        .errno
+}
+
+fn say_modes() {
     line(b"mode 0x31: errno ", mode(true, 0x31));
     line(b"mode 0x30: errno ", mode(true, 0x30));
     line(b"mode 0xE1, no privilege: errno ", mode(false, 0xE1));
     line(b"mode 0xE0, no privilege: errno ", mode(false, 0xE0));
-    say(b"poll 44: errno ", poll().errno);
-    line(b", tx_status ", poll().status);
+}
+
+fn say_replies() {
     line(
         b"sent 40 8F wants 90, came 04 90 00: rx_status ",
         asked(3, 0x04, 0x90, 0x00).status,
@@ -176,13 +191,16 @@ fn main() {
         b"same, came 54 90 00: receive, errno ",
         asked(3, 0x54, 0x90, 0x00).errno,
     );
-    line(b"result 0x21: errno ", result(0x21));
-    line(b"result 0x02: errno ", result(0x02));
-    line(b"last number 4294967295: next is ", next_after_last());
+}
+
+fn say_lengths() {
     line(b"message of 16 bytes: errno ", sent(16));
     line(b"message of 17 bytes: errno ", sent(17));
     line(b"message of 16 bytes from the wire: errno ", came(16));
     line(b"message of 17 bytes from the wire: errno ", came(17));
+}
+
+fn say_queue() {
     line(b"18th queued: errno ", more(seventeen()));
     line(b"19th queued: errno ", more(one(seventeen(), 1)));
     line(
@@ -193,4 +211,25 @@ fn main() {
         b"19th of the core dropped: the next after a start, errno ",
         more(version_asked(one(seventeen(), 1)).bus_start().adapter),
     );
+}
+
+fn say_beside() {
+    line(b"mode 0x21 transmits beside 0x02: errno ", beside(0x21));
+    line(b"mode 0x31 transmits beside 0x02: errno ", beside(0x31));
+    line(b"mode 0x11 transmits beside 0x02: errno ", beside(0x11));
+    line(b"mode 0x01 transmits beside 0x02: errno ", beside(0x01));
+    line(b"mode 0x00 transmits beside 0x02: errno ", beside(0x00));
+}
+
+fn main() {
+    say_modes();
+    say(b"poll 44: errno ", poll().errno);
+    line(b", tx_status ", poll().status);
+    say_replies();
+    line(b"result 0x21: errno ", result(0x21));
+    line(b"result 0x02: errno ", result(0x02));
+    line(b"last number 4294967295: next is ", next_after_last());
+    say_lengths();
+    say_queue();
+    say_beside();
 }

@@ -2,6 +2,7 @@ pub mod KnownAnswers
 pub mod Numbers
 pub mod Checks
 pub mod Refused
+pub mod Excluded
 pub mod Entries
 pub mod Accepted
 pub mod CoreSends

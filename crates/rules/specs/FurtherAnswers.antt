@@ -32,6 +32,10 @@ sending bytes reply timeout flags = callTransmit 0 (record { length = length byt
 abbrev pub ok : Call
 ok = callBusResult 0x01 noCounts
 
+-- handle 0 in a mode beside handle 1, which is exclusive initiator, and then other calls
+abbrev pub beside : ℕ → List Call → List Call
+beside mode cs = callOpen true ∷ callMode 0 mode ∷ callMode 1 0x02 ∷ cs
+
 -- a listing into n rows; a configure
 abbrev pub rows : ℕ → Call
 rows n = callListing (replicate n (record { number = 0; «is_open» = false; mode = 0; entries = 0; owed = 0; lost = 0 }))
@@ -114,9 +118,21 @@ transmitAnswers =
     ∷ record { start = bench true; calls = sending (0x40 ∷ 0x8F ∷ []) 0x00 0 1 ∷ []; gives = 0 ∷ 1 ∷ 0 ∷ [] }
     -- a monitor may not transmit
     ∷ record { start = bench true; calls = callMode 0 0xE0 ∷ plain 0 ∷ []; gives = EPERM ∷ [] }
-    -- an exclusive initiator keeps the others out
-    ∷ record { start = bench true; calls = callOpen true ∷ callMode 1 0x02 ∷ plain 0 ∷ []; gives = EBUSY ∷ [] }
-    ∷ record { start = bench true; calls = callOpen true ∷ callMode 1 0x02 ∷ plain 1 ∷ []; gives = 0 ∷ 1 ∷ 0 ∷ [] }
+    -- an exclusive initiator keeps the others out, but for the exclusive follower (W-202)
+    ∷ record { start = bench true; calls = beside 0x01 (plain 0 ∷ []); gives = EBUSY ∷ [] }
+    ∷ record { start = bench true; calls = beside 0x11 (plain 0 ∷ []); gives = EBUSY ∷ [] }
+    ∷ record { start = bench true; calls = beside 0x21 (plain 0 ∷ []); gives = 0 ∷ 1 ∷ 0 ∷ [] }
+    ∷ record { start = bench true; calls = beside 0x31 (plain 0 ∷ []); gives = 0 ∷ 1 ∷ 0 ∷ [] }
+    -- which does not keep the exclusive initiator out, nor let a third handle in
+    ∷ record { start = bench true; calls = beside 0x31 (plain 0 ∷ plain 1 ∷ []); gives = 0 ∷ 2 ∷ 0 ∷ [] }
+    ∷ record { start = bench true; calls = beside 0x31 (callOpen true ∷ plain 2 ∷ []); gives = EBUSY ∷ [] }
+    -- and gives the role up with its mode, or with its handle
+    ∷ record { start = bench true; calls = beside 0x31 (callMode 0 0x11 ∷ plain 0 ∷ []); gives = EBUSY ∷ [] }
+    ∷ record { start = bench true; calls = beside 0x31 (callClose 0 ∷ callOpen true ∷ plain 0 ∷ []); gives = EBUSY ∷ [] }
+    -- the checks before and after stay: no initiator at all, a monitor, a message that is malformed
+    ∷ record { start = bench true; calls = beside 0x00 (plain 0 ∷ []); gives = EPERM ∷ [] }
+    ∷ record { start = bench true; calls = beside 0xE0 (plain 0 ∷ []); gives = EPERM ∷ [] }
+    ∷ record { start = bench true; calls = beside 0x31 (sending [] 0x00 0 0 ∷ []); gives = EINVAL ∷ [] }
     -- polls: to 15, with a reply, to an own address, from a foreign one
     ∷ record { start = bench true; calls = callTransmit 0 (request (0x4F ∷ []) 0x00) ∷ []; gives = EINVAL ∷ [] }
     ∷ record { start = bench true; calls = callTransmit 0 (request (0x40 ∷ []) 0x90) ∷ []; gives = EINVAL ∷ [] }

@@ -11,7 +11,7 @@ use Rattle.message.specs.Message.{message, initiator, destination, opcode}
 use Rattle.message.specs.declared.Message.{Message}
 use Rattle.rules.specs.Call.{Request, Outcome, finish, unless, check, Answer}
 use Rattle.rules.specs.Derived.{Derived, counted, roomTakenBy}
-use Rattle.rules.specs.Handles.{handleAt, isOpen, initiatorPart, isConfigured, isOwn}
+use Rattle.rules.specs.Handles.{handleAt, isOpen, initiatorPart, isExclusiveFollower, isConfigured, isOwn}
 use Rattle.rules.specs.Number.{nextSequence}
 use Rattle.rules.specs.Owed.{wantedReplies}
 use Rattle.rules.specs.State.{State, withQueue, withLast}
@@ -73,13 +73,20 @@ isFullBy d s h r =
 abbrev pub isFull : State → ℕ → Request → Bool
 isFull = isFullBy counted
 
--- 1. "EBADF; then ENOTTY; then EPERM for low digit 0." 2. "Another handle is exclusive initiator: EBUSY." Then the later ones
+-- 2, as W-202 changed it: "exactly if another handle is exclusive initiator and this one is not the exclusive follower"
+abbrev pub isExcludedBy : Derived → State → ℕ → Bool
+isExcludedBy d s h = d .otherInitiator s h && not (isExclusiveFollower (handleAt s h .mode))
+
+abbrev pub isExcluded : State → ℕ → Bool
+isExcluded = isExcludedBy counted
+
+-- 1. "EBADF; then ENOTTY; then EPERM for low digit 0." 2: EBUSY. Then the later ones
 abbrev pub senderRefusalBy : Derived → State → ℕ → ℕ → ℕ
 senderRefusalBy d s h later =
     check (not (isOpen s h)) EBADF
     (check (not (s .capabilities .transmit)) ENOTTY
     (check (eqb (initiatorPart (handleAt s h .mode)) CEC-MODE-NO-INITIATOR) EPERM
-    (check (d .otherInitiator s h) EBUSY later)))
+    (check (isExcludedBy d s h) EBUSY later)))
 
 abbrev pub senderRefusal : State → ℕ → ℕ → ℕ
 senderRefusal = senderRefusalBy counted

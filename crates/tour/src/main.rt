@@ -1,9 +1,14 @@
-// The camera program and the chart program share one wire. Each line says which program got what, under which number.
+// The camera program and the chart program share one wire, and then a controller. Each line says which program got what, under which number.
 use adapter::Adapter;
 use constants::CEC_LOG_ADDR_BROADCAST;
 use constants::CEC_LOG_ADDR_UNREGISTERED;
+use constants::CEC_MODE_EXCL_FOLLOWER_PASSTHRU;
+use constants::CEC_MODE_EXCL_INITIATOR;
+use constants::CEC_MODE_INITIATOR;
 use constants::CEC_MODE_MONITOR;
+use constants::CEC_MSG_CEC_VERSION;
 use constants::CEC_MSG_FEATURE_ABORT;
+use constants::CEC_MSG_GET_CEC_VERSION;
 use constants::CEC_MSG_GIVE_DEVICE_POWER_STATUS;
 use constants::CEC_MSG_IMAGE_VIEW_ON;
 use constants::CEC_MSG_REPORT_PHYSICAL_ADDR;
@@ -34,6 +39,11 @@ const CHART: u8 = 1;
 
 const MONITOR: u8 = 2;
 
+const CONTROLLER: u8 = 3;
+
+// CEC version 1.4.
+const VERSION: u8 = 5;
+
 fn say(text: &[u8]) {
     io::write_all(1, text);
 }
@@ -48,8 +58,10 @@ fn say_program(handle: u8) {
         say(b"camera");
     } else if handle == CHART {
         say(b"chart");
-    } else {
+    } else if handle == MONITOR {
         say(b"monitor");
+    } else {
+        say(b"controller");
     }
 }
 
@@ -70,7 +82,7 @@ fn configured(adapter: Adapter) -> Adapter {
     let answer = adapter.configure(Settings {
         physical_address: 0x1000,
         mask: 0x0010,
-        version: 5,
+        version: VERSION,
         device_type: 4,
         vendor_id: 0x00A0B0,
         name_length: 3,
@@ -148,11 +160,15 @@ fn came(adapter: Adapter, from: u8, to: u8, opcode: u8, third: u8) -> Adapter {
     adapter.received(3, bytes).adapter
 }
 
-// A device answers the box.
-fn answered(adapter: Adapter, from: u8, opcode: u8, third: u8) -> Adapter {
+fn say_message(from: u8, opcode: u8) {
     say_number(b"wire: message from ", from as u32);
     say_number(b", opcode ", opcode as u32);
     say(b"\n");
+}
+
+// A device answers the box.
+fn answered(adapter: Adapter, from: u8, opcode: u8, third: u8) -> Adapter {
+    say_message(from, opcode);
     came(adapter, from, BOX, opcode, third)
 }
 
@@ -272,9 +288,11 @@ fn refused(adapter: Adapter) -> Adapter {
     received(received(now, CHART), CHART)
 }
 
-fn monitoring(adapter: Adapter) -> Adapter {
-    let answer = adapter.set_mode(MONITOR, CEC_MODE_MONITOR);
-    say_number(b"monitor: mode, errno ", answer.errno);
+fn in_mode(adapter: Adapter, handle: u8, mode: u32) -> Adapter {
+    let answer = adapter.set_mode(handle, mode);
+    say_program(handle);
+    say_number(b": mode ", mode);
+    say_number(b", errno ", answer.errno);
     say(b"\n");
     answer.adapter
 }
@@ -299,10 +317,41 @@ fn listed(adapter: Adapter) {
 
 // A monitor has room for 16 copies; the listing says how many it lost.
 fn watched(adapter: Adapter) -> Adapter {
-    let now = nine_told(nine_told(monitoring(opened(adapter, true))));
+    let now = nine_told(nine_told(in_mode(opened(adapter, true), MONITOR, CEC_MODE_MONITOR)));
     say(b"wire: 18 messages from 0 to all\n");
     listed(now);
     received(received(now, MONITOR), CAMERA)
+}
+
+// The display asks the box for its CEC version.
+fn version_asked(adapter: Adapter) -> Adapter {
+    let question = request(DISPLAY, BOX, CEC_MSG_GET_CEC_VERSION, 0);
+    let bytes = question.bytes;
+    say_message(DISPLAY, CEC_MSG_GET_CEC_VERSION);
+    adapter.received(question.length, bytes).adapter
+}
+
+// The controller tells it.
+fn version_told(adapter: Adapter) -> Adapter {
+    let mut answer = request(BOX, DISPLAY, CEC_MSG_CEC_VERSION, 0);
+    answer.length = 3;
+    answer.bytes[2] = VERSION;
+    transmitted(adapter, CONTROLLER, answer)
+}
+
+// The core leaves a question to the passthrough follower, which may answer it beside an exclusive initiator; others may not transmit.
+fn controlled(adapter: Adapter) -> Adapter {
+    let mut now = in_mode(
+        opened(adapter, false),
+        CONTROLLER,
+        CEC_MODE_EXCL_FOLLOWER_PASSTHRU | CEC_MODE_INITIATOR,
+    );
+    now = in_mode(now, CAMERA, CEC_MODE_EXCL_INITIATOR);
+    now = received(version_asked(now), CONTROLLER);
+    now = asked(now, CHART, AMPLIFIER);
+    now = sent(version_told(now), CEC_TX_STATUS_OK, Counts::none());
+    now = received(now, CONTROLLER);
+    in_mode(now, CAMERA, CEC_MODE_INITIATOR)
 }
 
 fn looked_up(adapter: Adapter, address: u8) {
@@ -354,5 +403,6 @@ fn main() {
     now = refused(now);
     now = reported(now);
     now = watched(now);
+    now = controlled(now);
     unconfigured(now);
 }
