@@ -354,7 +354,8 @@ static inline uint32_t cec_set_mode(struct cec_adapter *adapter, unsigned handle
  * CEC_TRANSMIT of a handle that does not block: queues a message under a sequence number, with tx_status 0. Its result, and
  * its reply if one is wanted, come under that number to the inbox of this handle alone; monitors, and followers if
  * CEC_MSG_FL_REPLY_TO_FOLLOWERS is set, get copies with sequence 0. A poll to an own address is not queued: its answer has
- * CEC_TX_STATUS_NACK at once. EBADF, ENOTTY, EPERM, EBUSY, EINVAL, ENONET.
+ * CEC_TX_STATUS_NACK at once. EBADF, ENOTTY, EPERM, EINVAL, ENONET. EBUSY: another handle is exclusive initiator and this
+ * one is not the exclusive follower, or there is no room.
  */
 static inline struct cec_transmit_answer cec_transmit(struct cec_adapter *adapter, unsigned handle, struct cec_request request)
 {

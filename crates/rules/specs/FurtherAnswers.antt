@@ -123,7 +123,8 @@ transmitAnswers =
     ∷ record { start = bench true; calls = beside 0x11 (plain 0 ∷ []); gives = EBUSY ∷ [] }
     ∷ record { start = bench true; calls = beside 0x21 (plain 0 ∷ []); gives = 0 ∷ 1 ∷ 0 ∷ [] }
     ∷ record { start = bench true; calls = beside 0x31 (plain 0 ∷ []); gives = 0 ∷ 1 ∷ 0 ∷ [] }
-    -- which does not keep the exclusive initiator out, nor let a third handle in
+    -- which neither keeps the exclusive initiator out nor lets a third handle in
+    ∷ record { start = bench true; calls = beside 0x01 (plain 1 ∷ []); gives = 0 ∷ 1 ∷ 0 ∷ [] }
     ∷ record { start = bench true; calls = beside 0x31 (plain 0 ∷ plain 1 ∷ []); gives = 0 ∷ 2 ∷ 0 ∷ [] }
     ∷ record { start = bench true; calls = beside 0x31 (callOpen true ∷ plain 2 ∷ []); gives = EBUSY ∷ [] }
     -- and gives the role up with its mode, or with its handle

@@ -4,7 +4,7 @@ ghost use mathlib.Core.Logic.{_≢_};
 ghost use mathlib.Core.Path.{_≡_};
 ghost use Rattle.parts.specs.Parts.{stateOf};
 ghost use Rattle.request.specs.Request.{requestOf};
-ghost use Rattle.rules.specs.Transmit.{isMisaddressed, isSelfPoll, isFull, isExcluded, senderRefusal, requestRefusal, transmitRefusal, transmissionOf, newRoom, doTransmit};
+ghost use Rattle.rules.specs.Transmit.{isMisaddressed, isSelfPoll, isFull, senderRefusal, requestRefusal, transmitRefusal, transmissionOf, newRoom, doTransmit};
 ghost use Rattle.transmit.specs.Transmitted.{transmittedOf, refusedTransmit};
 use constants::CEC_LOG_ADDR_UNREGISTERED;
 use constants::CEC_MODE_NO_INITIATOR;
@@ -62,19 +62,12 @@ fn is_full(parts: Parts, handle: u8, request: Request) -> bool
         | (16 < parts.count(handle) + owed.room + new_room(request))
 }
 
-// Another handle is exclusive initiator, and this one is not the exclusive follower.
-fn is_excluded(parts: Parts, handle: u8) -> bool
-    ensures { λ r. ⌜ r ≡ isExcluded (stateOf parts) handle ⌝ }
-{
-    let own = parts.handle_at(handle);
-    parts.handles.roles_of_others(handle).exclusive_initiator & !is_exclusive_follower(own.mode)
-}
-
 // Checks 1 and 2: whether the handle may transmit.
 fn sender_errno(parts: Parts, handle: u8) -> u32
     ensures { λ r. ⌜ r ≡ senderRefusal (stateOf parts) handle 0 ⌝ }
 {
-    let own = parts.handle_at(handle);
+    let handles = parts.handles;
+    let own = handles.at(handle);
     if !own.is_open {
         return EBADF;
     }
@@ -84,7 +77,7 @@ fn sender_errno(parts: Parts, handle: u8) -> u32
     if initiator_part(own.mode) == CEC_MODE_NO_INITIATOR {
         return EPERM;
     }
-    if is_excluded(parts, handle) {
+    if handles.roles_of_others(handle).exclusive_initiator & !is_exclusive_follower(own.mode) {
         return EBUSY;
     }
     0
