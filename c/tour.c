@@ -1,5 +1,5 @@
 /*
- * The camera program and the chart program share one wire, and then a controller, through the C header.
+ * The camera program and the chart program share one wire, later with a controller, through the C header.
  * It prints the lines of crates/tour/stdout.
  */
 #include "clothbadger.h"
@@ -51,16 +51,23 @@ static void configure(void)
     printf("box: configure, errno %" PRIu32 "\n", cec_configure(&adapter, settings));
 }
 
-static void transmit(uint8_t handle, struct cec_request request)
+/* A message without parameters. */
+static struct cec_request request(uint8_t from, uint8_t to, uint8_t opcode, uint8_t reply)
 {
-    struct cec_transmit_answer answer = cec_transmit(&adapter, handle, request);
-    printf("%s: transmit to %u, errno %" PRIu32 ", number %" PRIu32 "\n", program(handle), request.bytes[0] & 15, answer.error, answer.sequence);
+    return (struct cec_request){.length = 2, .bytes = {header(from, to), opcode}, .reply = reply};
+}
+
+static void transmit(uint8_t handle, struct cec_request message)
+{
+    struct cec_transmit_answer answer = cec_transmit(&adapter, handle, message);
+    printf("%s: transmit to %u, errno %" PRIu32 ", number %" PRIu32 "\n", program(handle), message.bytes[0] & 15,
+           answer.error, answer.sequence);
 }
 
 /* A device is asked for its power status. */
 static void ask(uint8_t handle, uint8_t device)
 {
-    transmit(handle, (struct cec_request){.length = 2, .bytes = {header(BOX, device), CEC_MSG_GIVE_DEVICE_POWER_STATUS}, .reply = CEC_MSG_REPORT_POWER_STATUS});
+    transmit(handle, request(BOX, device, CEC_MSG_GIVE_DEVICE_POWER_STATUS, CEC_MSG_REPORT_POWER_STATUS));
 }
 
 /* The next message goes out and comes to its end. */
@@ -128,7 +135,7 @@ static void both_ask(void)
 /* The display is woken before the box has an address. */
 static void wake(void)
 {
-    transmit(CAMERA, (struct cec_request){.length = 2, .bytes = {header(CEC_LOG_ADDR_UNREGISTERED, DISPLAY), CEC_MSG_IMAGE_VIEW_ON}});
+    transmit(CAMERA, request(CEC_LOG_ADDR_UNREGISTERED, DISPLAY, CEC_MSG_IMAGE_VIEW_ON, 0));
     send_next(CEC_TX_STATUS_OK, no_counts);
     receive(CAMERA);
 }
@@ -216,10 +223,13 @@ static void ask_version(void)
 /* The controller tells it. */
 static void tell_version(void)
 {
-    transmit(CONTROLLER, (struct cec_request){.length = 3, .bytes = {header(BOX, DISPLAY), CEC_MSG_CEC_VERSION, CEC_OP_CEC_VERSION_1_4}});
+    struct cec_request answer = request(BOX, DISPLAY, CEC_MSG_CEC_VERSION, 0);
+    answer.length = 3;
+    answer.bytes[2] = CEC_OP_CEC_VERSION_1_4;
+    transmit(CONTROLLER, answer);
 }
 
-/* The core leaves a question to the passthrough follower, which may answer it beside an exclusive initiator; others may not transmit. */
+/* The core leaves a question to the passthrough follower, which may answer it beside an exclusive initiator. */
 static void control(void)
 {
     open_handle(false);

@@ -1,5 +1,5 @@
 -- What the rules derive from the whole state: the owed room and the exclusive roles (document 01, "The adapter's parts" and "Modes").
--- The rules that read these take them as an argument, and are document 01's with `counted`.
+-- The rules that read these take them as an argument, and are those of the papers with `counted`.
 -- Assumes nothing.
 use Prim.Native.Nat.{ℕ, _+_}
 use mathlib.Core.Bool.{Bool}

@@ -1,4 +1,4 @@
-// The camera program and the chart program share one wire, and then a controller. Each line says which program got what, under which number.
+// The camera program and the chart program share one wire, later with a controller. Each line says which program got what, under which number.
 use adapter::Adapter;
 use constants::CEC_LOG_ADDR_BROADCAST;
 use constants::CEC_LOG_ADDR_UNREGISTERED;
@@ -339,7 +339,7 @@ fn version_told(adapter: Adapter) -> Adapter {
     transmitted(adapter, CONTROLLER, answer)
 }
 
-// The core leaves a question to the passthrough follower, which may answer it beside an exclusive initiator; others may not transmit.
+// The core leaves a question to the passthrough follower, which may answer it beside an exclusive initiator.
 fn controlled(adapter: Adapter) -> Adapter {
     let mut now = in_mode(
         opened(adapter, false),
