@@ -31,6 +31,7 @@ class Settings(Structure):
     _fields_ = [
         ("physical_address", ctypes.c_uint16), ("mask", ctypes.c_uint16), ("version", c_uint8), ("device_type", c_uint8),
         ("vendor_id", c_uint32), ("name_length", c_uint8), ("name", c_uint8 * 14),
+        ("all_device_types", c_uint8), ("rc_profile", c_uint8), ("device_features", c_uint8),
     ]
 
 

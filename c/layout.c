@@ -95,6 +95,9 @@ SAME(cec_settings, settings_Settings, device_type);
 SAME(cec_settings, settings_Settings, vendor_id);
 SAME(cec_settings, settings_Settings, name_length);
 SAME(cec_settings, settings_Settings, name);
+SAME(cec_settings, settings_Settings, all_device_types);
+SAME(cec_settings, settings_Settings, rc_profile);
+SAME(cec_settings, settings_Settings, device_features);
 
 SIZES(cec_row, handle_Row);
 SAME(cec_row, handle_Row, number);

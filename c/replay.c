@@ -11,7 +11,7 @@
 enum { OPEN = 1, CLOSE, MODE, TRANSMIT, RECEIVE, BUS_START, BUS_RESULT, TIME, MESSAGE, CONFIGURE, UNCONFIGURE };
 
 /* The bytes after each kind. */
-static const size_t body_length[] = {0, 1, 1, 5, 27, 1, 0, 5, 4, 17, 24, 0};
+static const size_t body_length[] = {0, 1, 1, 5, 27, 1, 0, 5, 4, 17, 27, 0};
 
 /* A number of some bytes, low byte first. */
 static uint32_t number(const uint8_t *bytes, int count)
@@ -52,6 +52,9 @@ static uint32_t configure(struct cec_adapter *adapter, const uint8_t *body)
         .device_type = body[5],
         .vendor_id = number(body + 6, 3),
         .name_length = body[9],
+        .all_device_types = body[24],
+        .rc_profile = body[25],
+        .device_features = body[26],
     };
     memcpy(settings.name, body + 10, sizeof settings.name);
     return cec_configure(adapter, settings);

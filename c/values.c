@@ -44,6 +44,14 @@ static void settings(void)
     core_answers(CEC_MSG_GIVE_DEVICE_VENDOR_ID);
     core_answers(CEC_MSG_GIVE_PHYSICAL_ADDR);
     core_answers(CEC_MSG_GIVE_OSD_NAME);
+    core_answers(CEC_MSG_GIVE_FEATURES);
+    box.version = CEC_OP_CEC_VERSION_2_0;
+    box.all_device_types = 0x12;
+    box.rc_profile = 0x34;
+    box.device_features = 0x56;
+    cec_unconfigure(&adapter);
+    printf("configure %" PRIu32 "\n", cec_configure(&adapter, box));
+    core_answers(CEC_MSG_GIVE_FEATURES);
 }
 
 /* Each count comes back in its own field, and one whose bit is clear as 0. */

@@ -79,6 +79,8 @@ extern "C" {
 #define CEC_MSG_REPORT_POWER_STATUS      0x90
 #define CEC_MSG_CEC_VERSION              0x9e
 #define CEC_MSG_GET_CEC_VERSION          0x9f
+#define CEC_MSG_GIVE_FEATURES            0xa5
+#define CEC_MSG_REPORT_FEATURES          0xa6
 #define CEC_MSG_INITIATE_ARC             0xc0
 #define CEC_MSG_REPORT_ARC_INITIATED     0xc1
 #define CEC_MSG_REPORT_ARC_TERMINATED    0xc2
@@ -91,6 +93,7 @@ extern "C" {
 /* Versions and device types, for cec_configure(). */
 #define CEC_OP_CEC_VERSION_1_3A         4
 #define CEC_OP_CEC_VERSION_1_4          5
+#define CEC_OP_CEC_VERSION_2_0          6
 #define CEC_OP_PRIM_DEVTYPE_TV          0
 #define CEC_OP_PRIM_DEVTYPE_RECORD      1
 #define CEC_OP_PRIM_DEVTYPE_TUNER       3
@@ -126,7 +129,7 @@ CLOTHBADGER_STATIC_ASSERT(CLOTHBADGER_ALIGNOF(struct cec_adapter) == 8, "alignme
 #define CLOTHBADGER_WIRE_OWNER        4240
 #define CLOTHBADGER_CAPABILITIES      5400
 #define CLOTHBADGER_PHYSICAL_ADDRESS  5408
-#define CLOTHBADGER_NOTED             5436
+#define CLOTHBADGER_NOTED             5440
 
 /*
  * A message: the first byte is initiator and destination, the second the opcode.
@@ -172,7 +175,9 @@ struct cec_request {
 
 /*
  * What cec_configure() sets: a physical address other than CEC_PHYS_ADDR_INVALID, 1 to 4 own logical addresses (bit n of the
- * mask is address n, 0 to 14), CEC_OP_CEC_VERSION_1_3A or _1_4, a CEC_OP_PRIM_DEVTYPE_, a vendor id of 24 bits, an OSD name of 1 to 14 bytes.
+ * mask is address n, 0 to 14), CEC_OP_CEC_VERSION_1_3A, _1_4 or _2_0, a CEC_OP_PRIM_DEVTYPE_, a vendor id of 24 bits, an OSD name of 1 to 14 bytes.
+ * The last three are what CEC_MSG_REPORT_FEATURES tells of a CEC 2.0 device: rc_profile and device_features are below 128 (bit 7 would
+ * announce another byte). With the other versions all three are 0.
  */
 struct cec_settings {
     uint16_t physical_address;
@@ -182,6 +187,9 @@ struct cec_settings {
     uint32_t vendor_id;
     uint8_t name_length;
     uint8_t name[14];
+    uint8_t all_device_types;
+    uint8_t rc_profile;
+    uint8_t device_features;
 };
 
 /* A row of the listing: a handle, how many entries it has, the room that it owes, and how many copies it lost. */

@@ -71,7 +71,8 @@ request : HasLayout Request.struct Request′.mir (λ d. (d .length, (d .bytes, 
 request = (λ d. refl, (refl, (refl, refl)))
 
 settings : HasLayout Settings.struct Settings′.mir
-    (λ d. (d .«physical_address», (d .mask, (d .version, (d .«device_type», (d .«vendor_id», (d .«name_length», (d .name, tt)))))))) (0 ∷ 2 ∷ 4 ∷ 5 ∷ 8 ∷ 12 ∷ 13 ∷ []) 28 4
+    (λ d. (d .«physical_address», (d .mask, (d .version, (d .«device_type», (d .«vendor_id», (d .«name_length», (d .name, (d .«all_device_types», (d .«rc_profile», (d .«device_features», tt)))))))))))
+    (0 ∷ 2 ∷ 4 ∷ 5 ∷ 8 ∷ 12 ∷ 13 ∷ 27 ∷ 28 ∷ 29 ∷ []) 32 4
 settings = (λ d. refl, (refl, (refl, refl)))
 
 row : HasLayout Row.struct Row′.mir (λ d. (d .number, (d .«is_open», (d .mode, (d .entries, (d .owed, (d .lost, tt))))))) (0 ∷ 1 ∷ 4 ∷ 8 ∷ 12 ∷ 16 ∷ []) 20 4

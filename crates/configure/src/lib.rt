@@ -6,8 +6,11 @@ ghost use mathlib.Core.Path.{_≡_};
 ghost use lib.ListN.{take, replicate};
 ghost use Rattle.configure.specs.Mask.{bitsOf};
 ghost use Rattle.parts.specs.Parts.{stateOf, doneOf};
-ghost use Rattle.rules.specs.Configure.{doConfigure, configureRefusal, isMask, isDeviceType, isSettings, keptSettings};
+ghost use Rattle.rules.specs.Configure.{doConfigure, configureRefusal, isMask, isVersion1, isVersion2, isDeviceType, isSettings, keptSettings};
 use constants::CEC_LOG_ADDR_UNREGISTERED;
+use constants::CEC_OP_CEC_VERSION_1_3A;
+use constants::CEC_OP_CEC_VERSION_1_4;
+use constants::CEC_OP_CEC_VERSION_2_0;
 use constants::CEC_PHYS_ADDR_INVALID;
 use constants::EBUSY;
 use constants::EINVAL;
@@ -37,6 +40,25 @@ fn is_mask(mask: u16) -> bool
     (mask < 0x8000) & (1 <= bits) & (bits <= 4)
 }
 
+// Version 4 or 5, with the three bytes of CEC 2.0 all 0.
+fn is_version_1(settings: Settings) -> bool
+    ensures { λ r. ⌜ r ≡ isVersion1 settings ⌝ }
+{
+    ((settings.version == CEC_OP_CEC_VERSION_1_3A) | (settings.version == CEC_OP_CEC_VERSION_1_4))
+        & (settings.all_device_types == 0)
+        & (settings.rc_profile == 0)
+        & (settings.device_features == 0)
+}
+
+// Version 6, the last two of its three bytes below 128.
+fn is_version_2(settings: Settings) -> bool
+    ensures { λ r. ⌜ r ≡ isVersion2 settings ⌝ }
+{
+    (settings.version == CEC_OP_CEC_VERSION_2_0)
+        & (settings.rc_profile < 128)
+        & (settings.device_features < 128)
+}
+
 // Device type 0, 1, 3, 4, 5, 6 or 7.
 fn is_device_type(device_type: u8) -> bool
     ensures { λ r. ⌜ r ≡ isDeviceType «device_type» ⌝ }
@@ -44,13 +66,13 @@ fn is_device_type(device_type: u8) -> bool
     (device_type <= 7) & (device_type != 2)
 }
 
-// A physical address that is valid, a mask, version 4 or 5, a device type, a vendor id of 24 bits, a name of 1 to 14 bytes.
+// A physical address that is valid, a mask, a version with its bytes, a device type, a vendor id of 24 bits, a name of 1 to 14 bytes.
 fn is_settings(settings: Settings) -> bool
     ensures { λ r. ⌜ r ≡ isSettings settings ⌝ }
 {
     (settings.physical_address != CEC_PHYS_ADDR_INVALID)
         & is_mask(settings.mask)
-        & ((settings.version == 4) | (settings.version == 5))
+        & (is_version_1(settings) | is_version_2(settings))
         & is_device_type(settings.device_type)
         & (settings.vendor_id < 16777216)
         & ((1 <= settings.name_length) & (settings.name_length <= 14))

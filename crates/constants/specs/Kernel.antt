@@ -97,7 +97,7 @@ CEC-RX-STATUS-ABORTED = 0x08
 abbrev pub CEC-MSG-FL-REPLY-TO-FOLLOWERS : ℕ
 CEC-MSG-FL-REPLY-TO-FOLLOWERS = 1
 
--- Opcodes (document 01, "A message from the wire"; linux/cec.h).
+-- Opcodes (document 01, "A message from the wire"; document 02, W-203; linux/cec.h).
 abbrev pub CEC-MSG-FEATURE-ABORT : ℕ
 CEC-MSG-FEATURE-ABORT = 0x00
 
@@ -137,6 +137,12 @@ CEC-MSG-CEC-VERSION = 0x9E
 abbrev pub CEC-MSG-GET-CEC-VERSION : ℕ
 CEC-MSG-GET-CEC-VERSION = 0x9F
 
+abbrev pub CEC-MSG-GIVE-FEATURES : ℕ
+CEC-MSG-GIVE-FEATURES = 0xA5
+
+abbrev pub CEC-MSG-REPORT-FEATURES : ℕ
+CEC-MSG-REPORT-FEATURES = 0xA6
+
 abbrev pub CEC-MSG-INITIATE-ARC : ℕ
 CEC-MSG-INITIATE-ARC = 0xC0
 
@@ -155,6 +161,16 @@ CEC-OP-ABORT-UNRECOGNIZED-OP = 0
 
 abbrev pub CEC-OP-ABORT-REFUSED : ℕ
 CEC-OP-ABORT-REFUSED = 4
+
+-- Versions (document 01, "Wire, time and configuration"; document 02, W-203; linux/cec.h).
+abbrev pub CEC-OP-CEC-VERSION-1-3A : ℕ
+CEC-OP-CEC-VERSION-1-3A = 4
+
+abbrev pub CEC-OP-CEC-VERSION-1-4 : ℕ
+CEC-OP-CEC-VERSION-1-4 = 5
+
+abbrev pub CEC-OP-CEC-VERSION-2-0 : ℕ
+CEC-OP-CEC-VERSION-2-0 = 6
 
 -- Addresses (linux/cec.h): 15 is the unregistered initiator and the broadcast destination.
 abbrev pub CEC-LOG-ADDR-UNREGISTERED : ℕ

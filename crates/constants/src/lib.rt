@@ -65,7 +65,7 @@ pub const CEC_RX_STATUS_ABORTED: u8 = 0x08;
 // The flag of a transmit (linux/cec.h).
 pub const CEC_MSG_FL_REPLY_TO_FOLLOWERS: u32 = 1;
 
-// Opcodes (document 01, "A message from the wire"; linux/cec.h).
+// Opcodes (document 01, "A message from the wire"; document 02, W-203; linux/cec.h).
 pub const CEC_MSG_FEATURE_ABORT: u8 = 0x00;
 
 pub const CEC_MSG_IMAGE_VIEW_ON: u8 = 0x04;
@@ -92,6 +92,10 @@ pub const CEC_MSG_CEC_VERSION: u8 = 0x9E;
 
 pub const CEC_MSG_GET_CEC_VERSION: u8 = 0x9F;
 
+pub const CEC_MSG_GIVE_FEATURES: u8 = 0xA5;
+
+pub const CEC_MSG_REPORT_FEATURES: u8 = 0xA6;
+
 pub const CEC_MSG_INITIATE_ARC: u8 = 0xC0;
 
 pub const CEC_MSG_REPORT_ARC_INITIATED: u8 = 0xC1;
@@ -104,6 +108,13 @@ pub const CEC_MSG_ABORT: u8 = 0xFF;
 pub const CEC_OP_ABORT_UNRECOGNIZED_OP: u8 = 0;
 
 pub const CEC_OP_ABORT_REFUSED: u8 = 4;
+
+// Versions (document 01, "Wire, time and configuration"; document 02, W-203; linux/cec.h).
+pub const CEC_OP_CEC_VERSION_1_3A: u8 = 4;
+
+pub const CEC_OP_CEC_VERSION_1_4: u8 = 5;
+
+pub const CEC_OP_CEC_VERSION_2_0: u8 = 6;
 
 // Addresses (linux/cec.h): 15 is the unregistered initiator and the broadcast destination.
 pub const CEC_LOG_ADDR_UNREGISTERED: u8 = 15;

@@ -1,10 +1,11 @@
 // What the core answers to a message, byte for byte.
 ghost use mathlib.Core.Bool.{true, false};
 ghost use mathlib.Core.Path.{_≡_};
-ghost use Rattle.core.specs.Work.{messageOf, abortOf, workOf};
+ghost use Rattle.core.specs.Work.{messageOf, abortOf, featuresWork, workOf};
 ghost use Rattle.constants.specs.Kernel.{CEC-LOG-ADDR-BROADCAST};
 ghost use Rattle.message.specs.Message.{initiator, destination};
 ghost use Rattle.rules.specs.Core.{header, versionAnswer, vendorAnswer, addressAnswer, nameAnswer};
+ghost use Rattle.rules.specs.Features.{featuresAnswer};
 use constants::CEC_LOG_ADDR_BROADCAST;
 use constants::CEC_MSG_ABORT;
 use constants::CEC_MSG_CEC_VERSION;
@@ -12,11 +13,14 @@ use constants::CEC_MSG_DEVICE_VENDOR_ID;
 use constants::CEC_MSG_FEATURE_ABORT;
 use constants::CEC_MSG_GET_CEC_VERSION;
 use constants::CEC_MSG_GIVE_DEVICE_VENDOR_ID;
+use constants::CEC_MSG_GIVE_FEATURES;
 use constants::CEC_MSG_GIVE_OSD_NAME;
 use constants::CEC_MSG_GIVE_PHYSICAL_ADDR;
+use constants::CEC_MSG_REPORT_FEATURES;
 use constants::CEC_MSG_REPORT_PHYSICAL_ADDR;
 use constants::CEC_MSG_SET_OSD_NAME;
 use constants::CEC_OP_ABORT_REFUSED;
+use constants::CEC_OP_CEC_VERSION_2_0;
 use message::Message;
 use settings::Settings;
 
@@ -117,6 +121,19 @@ fn name_answer(settings: Settings, asked: Message) -> Message
     )
 }
 
+fn features_answer(settings: Settings, asked: Message) -> Message
+    ensures { λ r. ⌜ r ≡ messageOf (featuresAnswer settings (destination (asked .bytes))) ⌝ }
+{
+    let mut bytes = [0; 16];
+    bytes[0] = to_all(asked);
+    bytes[1] = CEC_MSG_REPORT_FEATURES;
+    bytes[2] = settings.version;
+    bytes[3] = settings.all_device_types;
+    bytes[4] = settings.rc_profile;
+    bytes[5] = settings.device_features;
+    Message::new(6, bytes)
+}
+
 fn question(answer: Message) -> Work
     ensures { λ r. ⌜ r ≡ record { «is_question» = true; «is_report» = false; answer = answer } ⌝ }
 {
@@ -138,6 +155,17 @@ fn no_question(is_report: bool, answer: Message) -> Work
     }
 }
 
+// A question with CEC 2.0 alone.
+fn features_work(settings: Settings, asked: Message, refusal: Message) -> Work
+    ensures { λ r. ⌜ r ≡ featuresWork settings asked refusal ⌝ }
+{
+    if settings.version == CEC_OP_CEC_VERSION_2_0 {
+        question(features_answer(settings, asked))
+    } else {
+        no_question(false, refusal)
+    }
+}
+
 // What the core has to say to a message, by its opcode.
 pub fn work_for(settings: Settings, asked: Message) -> Work
     ensures { λ r. ⌜ r ≡ workOf settings asked ⌝ }
@@ -149,6 +177,7 @@ pub fn work_for(settings: Settings, asked: Message) -> Work
         CEC_MSG_GIVE_DEVICE_VENDOR_ID => question(vendor_answer(settings, asked)),
         CEC_MSG_GIVE_PHYSICAL_ADDR => question(address_answer(settings, asked)),
         CEC_MSG_GIVE_OSD_NAME => question(name_answer(settings, asked)),
+        CEC_MSG_GIVE_FEATURES => features_work(settings, asked, refusal),
         CEC_MSG_ABORT => question(refusal),
         CEC_MSG_REPORT_PHYSICAL_ADDR => no_question(true, refusal),
         _ => no_question(false, refusal),

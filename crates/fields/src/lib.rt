@@ -98,5 +98,8 @@ pub fn settings_of(r: [u8; 28]) -> Settings
         vendor_id: number_3(r[7], r[8], r[9]),
         name_length: r[10],
         name: name_of(r),
+        all_device_types: r[25],
+        rc_profile: r[26],
+        device_features: r[27],
     }
 }

@@ -12,6 +12,7 @@ use Rattle.guarantee.specs.Seen.{came, gave, results, okResults, replies
 use Rattle.lists.specs.Sums.{count}
 use Rattle.rules.proofs.KnownAnswers.{every-rule}
 use Rattle.rules.specs.Call.{Call, Request, accepted, callOpen, callClose, callTransmit, callReceive, callBusStart, callBusResult, callMessage, callTime, callConfigure, callUnconfigure}
+use Rattle.rules.specs.Cases.{benchSettings}
 use Rattle.rules.specs.State.{State, fresh}
 use Rattle.rules.specs.Step.{Step, after, step, run}
 use Rattle.wait.specs.Wait.{ownedBy}
@@ -30,7 +31,7 @@ status = callMessage 3 (0x04 ∷ 0x90 ∷ replicate 14 0)
 abbrev begin : ℕ → List Call → List Call
 begin handles more =
     replicate handles (callOpen true)
-    ++ (callConfigure (record { «physical_address» = 0x1000; mask = 0x0010; version = 5; «device_type» = 4; «vendor_id» = 0; «name_length» = 1; name = 0x42 ∷ replicate 13 0 })
+    ++ (callConfigure benchSettings
     ∷ more)
 
 abbrev start : State

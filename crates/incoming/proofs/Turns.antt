@@ -24,8 +24,9 @@ use Rattle.lists.specs.Tests.{clash, cond-same, split}
 use Rattle.lists.specs.Vector.{put}
 use Rattle.message.specs.Message.{destination, opcode, isFeatureAbort}
 use Rattle.message.specs.declared.Message.{Message}
-use Rattle.rules.specs.Core.{answers, coreAnswer, isAnswered, isDirected, isNoted, isRegistered, notes, sends}
+use Rattle.rules.specs.Core.{answers, isDirected, isNoted, isRegistered, notes, sends}
 use Rattle.rules.specs.Deliver.{copies, deliver}
+use Rattle.rules.specs.Features.{answerFor, isAnswered}
 use Rattle.rules.specs.Handles.{inRole, isConfigured, isHere, someone, isExclusiveFollower, isFollower, isPassthrough}
 use Rattle.rules.specs.Incoming.{followed, handled, heard, heardWith, monitors, refusedMessage, replied, replyEntry, stops}
 use Rattle.settings.specs.declared.Settings.{Settings}
@@ -95,7 +96,7 @@ module _ (s : State) (t : Taken) (m : Message) where
   chosen = chosenFor s t m
 
   abbrev answer : Message
-  answer = messageOf (coreAnswer (s .settings) m)
+  answer = messageOf (answerFor (s .settings) m)
 
   abbrev abort : Message
   abort = messageOf (abortOf m CEC-OP-ABORT-UNRECOGNIZED-OP)
@@ -107,7 +108,7 @@ module _ (s : State) (t : Taken) (m : Message) where
   said = isAnswered s m
 
   abbrev bytes : List ℕ
-  bytes = coreAnswer (s .settings) m
+  bytes = answerFor (s .settings) m
 
   answer-step : (a : State) → when (chosen .answers) (λ x. putInto x answer) a ≡ answers a said bytes
   unfolding answers sends
@@ -159,7 +160,7 @@ module _ (s : State) (t : Taken) (m : Message) where
       ∙ sent-in-order answer abort kind e (chosen .answers) (chosen .aborts) (chosen .copies) b answer-alone (λ z. rw h (no-followers (chosen .exclusive) (s .handles) (abort-alone z .1)))
       ∙ in-order b k
 
-pub done-all : (s : State) (further : Bool) (m : Message) → doAll (toDoOf s further m) m s ≡ cond further (handled s (isAnswered s m) (coreAnswer (s .settings) m) (matchTaken m (s .waits)) m) s
+pub done-all : (s : State) (further : Bool) (m : Message) → doAll (toDoOf s further m) m s ≡ cond further (handled s (isAnswered s m) (answerFor (s .settings) m) (matchTaken m (s .waits)) m) s
 unfolding matchTaken notes
 done-all s false m = sym (nobody-copies NOBODY (messageCopy m) s refl)
 done-all s true m =
@@ -182,13 +183,13 @@ pub goes-on : (s c : State) (m : Message) → c .settings ≡ s .settings → go
 goes-on s c m q = rw q (not-stops (isConfigured s) (eqb (m .length) 1) (isHere s (destination (m .bytes))))
 
 pub heard-all : (s c r : State) (m : Message) → c ≡ copies (inRole (monitors s m)) (messageCopy m) s
-    → r ≡ cond (goesOn c m) (handled c (isAnswered c m) (coreAnswer (c .settings) m) (matchTaken m (c .waits)) m) c → r ≡ heard s m
+    → r ≡ cond (goesOn c m) (handled c (isAnswered c m) (answerFor (c .settings) m) (matchTaken m (c .waits)) m) c → r ≡ heard s m
 unfolding heardWith
 heard-all s c r m q e =
     let k = copies-alike (inRole (monitors s m)) (messageCopy m) s in
     let w = copies-waits (inRole (monitors s m)) (messageCopy m) s in
     let g = goes-on s c m (ap (λ (z : State). z .settings) q ∙ k .settings) in
     let x : c .settings ≡ s .settings = ap (λ (z : State). z .settings) q ∙ k .settings in
-    let y : isAnswered c m ≡ isAnswered s m = rw (ap (someone isPassthrough) q ∙ k .roles isPassthrough) in
-    let v : coreAnswer (c .settings) m ≡ coreAnswer (s .settings) m = ap (λ (z : Settings). coreAnswer z m) x in
+    let y : isAnswered c m ≡ isAnswered s m = rw (ap (someone isPassthrough) q ∙ k .roles isPassthrough, x) in
+    let v : answerFor (c .settings) m ≡ answerFor (s .settings) m = ap (λ (z : Settings). answerFor z m) x in
     e ∙ split (stops s m) (λ z. rw (g, z) q) (λ z. rw (g, z, y, v, q, w))

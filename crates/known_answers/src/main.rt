@@ -1,6 +1,8 @@
-// The known answers of document 01, and those of W-202, asked of the code: one line for each case with what it gave.
+// The known answers of document 01, and those of W-202 and W-203, asked of the code: one line for each case with what it gave.
 use adapter::Adapter;
 use constants::CEC_MODE_EXCL_INITIATOR;
+use constants::CEC_OP_CEC_VERSION_1_4;
+use constants::CEC_OP_CEC_VERSION_2_0;
 use constants::CEC_TX_STATUS_OK;
 use entry::Counts;
 use queue::Queue;
@@ -19,23 +21,30 @@ fn line(text: &[u8], number: u32) {
     io::write_all(1, b"\n");
 }
 
-// Address 0x1000, mask 0x0010, both capabilities, handle 0 alone open, in mode 0x01.
-fn bench(privileged: bool) -> Adapter {
+// Address 0x1000, mask 0x0010, a version with its three bytes.
+fn settings(version: u8, types: u8, profile: u8, features: u8) -> Settings {
     let mut name = [0; 14];
     name[0] = 0x42;
-    let settings = Settings {
+    Settings {
         physical_address: 0x1000,
         mask: 0x0010,
-        version: 5,
+        version: version,
         device_type: 4,
         vendor_id: 0x00A0B0,
         name_length: 1,
         name: name,
-    };
+        all_device_types: types,
+        rc_profile: profile,
+        device_features: features,
+    }
+}
+
+// Both capabilities, handle 0 alone open, in mode 0x01.
+fn bench(privileged: bool) -> Adapter {
     Adapter::fresh(true, true)
         .open(privileged)
         .adapter
-        .configure(settings)
+        .configure(settings(CEC_OP_CEC_VERSION_1_4, 0, 0, 0))
         .adapter
 }
 
@@ -142,12 +151,17 @@ fn more(adapter: Adapter) -> u32 {
     adapter.transmit(1, request(2, 0x40, 0x8F, 0)).errno
 }
 
-// The TV asks for the CEC version, and the core answers: one more in the queue, if there is room.
-fn version_asked(adapter: Adapter) -> Adapter {
+// The TV asks something of the core.
+fn core_asked(adapter: Adapter, opcode: u8) -> Adapter {
     let mut bytes = [0; 16];
     bytes[0] = 0x04;
-    bytes[1] = 0x9F;
+    bytes[1] = opcode;
     adapter.received(2, bytes).adapter
+}
+
+// The CEC version, which the core answers: one more in the queue, if there is room.
+fn version_asked(adapter: Adapter) -> Adapter {
+    core_asked(adapter, 0x9F)
 }
 
 fn next_after_last() -> u32 {
@@ -165,6 +179,30 @@ fn beside(mode: u32) -> u32 {
         .adapter
         .transmit(0, request(2, 0x40, 0x8F, 0))
         .errno
+}
+
+// The errno of a configure with a version and its three bytes (W-203).
+fn configured(version: u8, types: u8, profile: u8, features: u8) -> u32 {
+    Adapter::fresh(true, true)
+        .configure(settings(version, types, profile, features))
+        .errno
+}
+
+// What is sent when A5 comes, under a version with its three bytes.
+fn features_asked(version: u8, types: u8, profile: u8, features: u8) -> [u8; 16] {
+    let adapter = Adapter::fresh(true, true)
+        .configure(settings(version, types, profile, features))
+        .adapter;
+    core_asked(adapter, 0xA5).bus_start().message.bytes()
+}
+
+fn say_six(bytes: [u8; 16]) {
+    say(b"", bytes[0] as u32);
+    say(b" ", bytes[1] as u32);
+    say(b" ", bytes[2] as u32);
+    say(b" ", bytes[3] as u32);
+    say(b" ", bytes[4] as u32);
+    line(b" ", bytes[5] as u32);
 }
 
 fn say_modes() {
@@ -221,6 +259,26 @@ fn say_beside() {
     line(b"mode 0x00 transmits beside 0x02: errno ", beside(0x00));
 }
 
+fn say_features() {
+    line(
+        b"version 6, bytes 255 127 127: errno ",
+        configured(6, 255, 127, 127),
+    );
+    line(
+        b"version 6, bytes 0 128 0: errno ",
+        configured(6, 0, 128, 0),
+    );
+    line(
+        b"version 6, bytes 0 0 128: errno ",
+        configured(6, 0, 0, 128),
+    );
+    line(b"version 5, bytes 1 0 0: errno ", configured(5, 1, 0, 0));
+    io::write_all(1, b"version 6, bytes 16 74 35, came 04 A5: sent ");
+    say_six(features_asked(CEC_OP_CEC_VERSION_2_0, 16, 74, 35));
+    io::write_all(1, b"version 5, came 04 A5: sent ");
+    say_six(features_asked(CEC_OP_CEC_VERSION_1_4, 0, 0, 0));
+}
+
 fn main() {
     say_modes();
     say(b"poll 44: errno ", poll().errno);
@@ -232,4 +290,5 @@ fn main() {
     say_lengths();
     say_queue();
     say_beside();
+    say_features();
 }

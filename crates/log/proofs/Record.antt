@@ -58,10 +58,12 @@ by-kind kind r n h =
     rw (e, byte-held r n 1 (omega arith), byte-held r n 2 (omega arith), byte-held r n 3 (omega arith), byte-held r n 4 (omega arith), byte-held r n 5 (omega arith)))
     (λ e. rw e (split (eqb kind 8) (λ e. rw (e, number-held r n 1 4 (omega (arith, length-of kind 8 e))))
     (λ e. rw e (split (eqb kind 9) (λ e. let m : 18 ≤ n = omega (arith, length-of kind 9 e) in rw (e, byte-held r n 1 (omega arith), bytes-held r n 2 16 (omega arith)))
-    (λ e. rw e (split (eqb kind 10) (λ e. let m : 25 ≤ n = omega (arith, length-of kind 10 e) in
+    (λ e. rw e (split (eqb kind 10) (λ e. let m : 28 ≤ n = omega (arith, length-of kind 10 e) in
     let a = number-held r n 1 2 (omega arith) in
     let b = number-held r n 3 2 (omega arith) in
-    rw (e, a, b, byte-held r n 5 (omega arith), byte-held r n 6 (omega arith), number-held r n 7 3 (omega arith), byte-held r n 10 (omega arith), bytes-held r n 11 14 (omega arith)))
+    let c = bytes-held r n 11 14 (omega arith) in
+    rw (e, a, b, byte-held r n 5 (omega arith), byte-held r n 6 (omega arith), number-held r n 7 3 (omega arith), byte-held r n 10 (omega arith), c)
+    (rw (byte-held r n 25 (omega arith), byte-held r n 26 (omega arith), byte-held r n 27 (omega arith))))
     (λ e. rw e)))))))))))))))))))
 
 pub kind-held : (r : List ℕ) (n : ℕ) → 0 < n → kindOf (take n r) ≡ kindOf r

@@ -16,12 +16,12 @@ isKind kind = leb 1 kind && leb kind 11
 
 -- the lengths of the bodies by kind; there is no kind 0
 abbrev pub bodyLengths : List ℕ
-bodyLengths = 0 ∷ 1 ∷ 1 ∷ 5 ∷ 27 ∷ 1 ∷ 0 ∷ 5 ∷ 4 ∷ 17 ∷ 24 ∷ 0 ∷ []
+bodyLengths = 0 ∷ 1 ∷ 1 ∷ 5 ∷ 27 ∷ 1 ∷ 0 ∷ 5 ∷ 4 ∷ 17 ∷ 27 ∷ 0 ∷ []
 
 unfoldable pub bodyLength : ℕ → ℕ
 bodyLength kind = getD bodyLengths kind 0
 
--- the longest record: a transmit
+-- the longest record: a transmit or a configure
 abbrev pub recordMax : ℕ
 recordMax = 28
 
@@ -63,7 +63,7 @@ resultOf r = callBusResult (byteAt r 1) (countsIn r)
 abbrev pub incomingOf : List ℕ → Call
 incomingOf r = callMessage (byteAt r 1) (take 16 (drop 2 r))
 
--- address 2, mask 2, version, type, vendor 3, name length, 14 bytes
+-- address 2, mask 2, version, type, vendor 3, name length, 14 bytes; W-203: "Replay kind 0A grows by these three bytes at the end"
 abbrev pub settingsIn : List ℕ → Settings
 settingsIn r = record {
   «physical_address» = numberAt r 1 2;
@@ -73,6 +73,9 @@ settingsIn r = record {
   «vendor_id» = numberAt r 7 3;
   «name_length» = byteAt r 10;
   name = take 14 (drop 11 r);
+  «all_device_types» = byteAt r 25;
+  «rc_profile» = byteAt r 26;
+  «device_features» = byteAt r 27;
 }
 
 abbrev pub configureOf : List ℕ → Call

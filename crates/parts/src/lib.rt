@@ -61,6 +61,9 @@ pub fn no_settings() -> Settings
         vendor_id: 0,
         name_length: 0,
         name: [0; 14],
+        all_device_types: 0,
+        rc_profile: 0,
+        device_features: 0,
     }
 }
 

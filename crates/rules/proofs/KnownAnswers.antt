@@ -11,7 +11,7 @@ use Rattle.rules.specs.Close.{doClose}
 use Rattle.rules.specs.Configure.{doConfigure}
 use Rattle.rules.specs.Core.{sends, answers, notes}
 use Rattle.rules.specs.Deliver.{copyToBy, copiesBy}
-use Rattle.rules.specs.FurtherAnswers.{handleAnswers, modeAnswers, transmitAnswers, roomAnswers, busAnswers, timeAnswers, configurationAnswers, messageAnswers, coreAnswers}
+use Rattle.rules.specs.FurtherAnswers.{handleAnswers, modeAnswers, transmitAnswers, roomAnswers, busAnswers, timeAnswers, configurationAnswers, messageAnswers, coreAnswers, featureAnswers}
 use Rattle.rules.specs.Incoming.{doMessage, heardWith}
 use Rattle.rules.specs.KnownAnswers.{knownAnswers}
 use Rattle.rules.specs.Listing.{doListing}
@@ -47,5 +47,6 @@ pub further-answers :
     × (allGiven configurationAnswers ≡ true)
     × (allGiven messageAnswers ≡ true)
     × (allGiven coreAnswers ≡ true)
+    × (allGiven featureAnswers ≡ true)
 unfolding every-rule
-further-answers = (refl, refl, refl, refl, refl, refl, refl, refl, refl)
+further-answers = (refl, refl, refl, refl, refl, refl, refl, refl, refl, refl)

@@ -3,6 +3,7 @@ pub mod Numbers
 pub mod Checks
 pub mod Refused
 pub mod Excluded
+pub mod Features
 pub mod Entries
 pub mod Accepted
 pub mod CoreSends

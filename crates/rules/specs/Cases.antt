@@ -35,7 +35,18 @@ lastAnswer s a [] = a
 lastAnswer s a (c ∷ cs) = lastAnswer (step s c .state) (step s c .answer) cs
 
 abbrev pub benchSettings : Settings
-benchSettings = record { «physical_address» = 0x1000; mask = 0x0010; version = 5; «device_type» = 4; «vendor_id» = 0x00A0B0; «name_length» = 1; name = 0x42 ∷ replicate 13 0 }
+benchSettings = record {
+  «physical_address» = 0x1000;
+  mask = 0x0010;
+  version = 5;
+  «device_type» = 4;
+  «vendor_id» = 0x00A0B0;
+  «name_length» = 1;
+  name = 0x42 ∷ replicate 13 0;
+  «all_device_types» = 0;
+  «rc_profile» = 0;
+  «device_features» = 0;
+}
 
 -- "Address 0x1000, mask 0x0010, both capabilities, privileged handle 0 alone open, in mode 0x01, unless said."
 abbrev pub bench : Bool → State

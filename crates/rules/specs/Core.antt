@@ -40,11 +40,11 @@ isQuestion code =
     || eqb code CEC-MSG-ABORT
 
 -- "Core answers go only to directed messages from 0 to 14, and not under a 0x30 follower"
-abbrev pub isAnsweredBy : Derived → State → Message → Bool
-isAnsweredBy d s m = isDirected m && isRegistered m && not (d .passthrough s) && isQuestion (opcode (m .bytes))
+abbrev pub mayAnswerBy : Derived → State → Message → Bool
+mayAnswerBy d s m = isDirected m && isRegistered m && not (d .passthrough s)
 
-abbrev pub isAnswered : State → Message → Bool
-isAnswered = isAnsweredBy counted
+abbrev pub mayAnswer : State → Message → Bool
+mayAnswer = mayAnswerBy counted
 
 -- "9F gives 9E, version"
 abbrev pub versionAnswer : Settings → ℕ → ℕ → List ℕ

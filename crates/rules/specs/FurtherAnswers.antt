@@ -1,7 +1,7 @@
 -- More answers, worked out by hand from document 01, a table for each section: the known answers that are not starred, the checks of each call, and places that can be read in two ways.
 -- Assumes nothing.
 use Prim.Native.Nat.{ℕ, zero, suc, _-_}
-use mathlib.Core.Bool.{true, false}
+use mathlib.Core.Bool.{Bool, true, false}
 use mathlib.Core.List.{List, [], _∷_, _++_}
 use lib.ListN.{length, replicate}
 use Rattle.constants.specs.Kernel.{EPERM, EBADF, EAGAIN, EBUSY, EINVAL, EMFILE, ENOTTY, ENONET}
@@ -36,13 +36,17 @@ ok = callBusResult 0x01 noCounts
 abbrev pub beside : ℕ → List Call → List Call
 beside mode cs = callOpen true ∷ callMode 0 mode ∷ callMode 1 0x02 ∷ cs
 
--- a listing into n rows; a configure
+-- a listing into n rows; a configure; one of a version, with the three bytes of CEC 2.0
 abbrev pub rows : ℕ → Call
 rows n = callListing (replicate n (record { number = 0; «is_open» = false; mode = 0; entries = 0; owed = 0; lost = 0 }))
 
 abbrev pub setting : ℕ → ℕ → ℕ → ℕ → ℕ → ℕ → Call
 setting address mask version type vendor name =
-    callConfigure (record { «physical_address» = address; mask = mask; version = version; «device_type» = type; «vendor_id» = vendor; «name_length» = name; name = replicate 14 0x41 })
+    callConfigure (record { «physical_address» = address; mask = mask; version = version; «device_type» = type; «vendor_id» = vendor; «name_length» = name; name = replicate 14 0x41; «all_device_types» = 0; «rc_profile» = 0; «device_features» = 0 })
+
+abbrev pub profile : ℕ → ℕ → ℕ → ℕ → Call
+profile version types rc features =
+    callConfigure (record { «physical_address» = 0x1000; mask = 0x0010; version = version; «device_type» = 4; «vendor_id» = 0; «name_length» = 1; name = 0x42 ∷ replicate 13 0; «all_device_types» = types; «rc_profile» = rc; «device_features» = features })
 
 -- a call n times, and then others
 abbrev pub times : ℕ → Call → List Call → List Call
@@ -232,7 +236,8 @@ configurationAnswers =
     ∷ record { start = unconfigured; calls = setting 0x1000 0x0000 5 4 0 1 ∷ []; gives = EINVAL ∷ [] }
     ∷ record { start = unconfigured; calls = setting 0x1000 0x8010 5 4 0 1 ∷ []; gives = EINVAL ∷ [] }
     ∷ record { start = unconfigured; calls = setting 0x1000 0x001F 5 4 0 1 ∷ []; gives = EINVAL ∷ [] }
-    ∷ record { start = unconfigured; calls = setting 0x1000 0x0010 6 4 0 1 ∷ []; gives = EINVAL ∷ [] }
+    ∷ record { start = unconfigured; calls = setting 0x1000 0x0010 3 4 0 1 ∷ []; gives = EINVAL ∷ [] }
+    ∷ record { start = unconfigured; calls = setting 0x1000 0x0010 7 4 0 1 ∷ []; gives = EINVAL ∷ [] }
     ∷ record { start = unconfigured; calls = setting 0x1000 0x0010 5 2 0 1 ∷ []; gives = EINVAL ∷ [] }
     ∷ record { start = unconfigured; calls = setting 0x1000 0x0010 5 8 0 1 ∷ []; gives = EINVAL ∷ [] }
     ∷ record { start = unconfigured; calls = setting 0x1000 0x0010 5 4 16777216 1 ∷ []; gives = EINVAL ∷ [] }
@@ -316,4 +321,51 @@ coreAnswers =
     ∷ record { start = bench true; calls = callOpen true ∷ callMode 1 0x11 ∷ sending (0x40 ∷ 0x9F ∷ []) 0x9F 0 1 ∷ callBusStart ∷ ok ∷ callReceive 0 ∷ incoming (0x04 ∷ 0x9F ∷ []) ∷ callReceive 0 ∷ []; gives = got 1 0x00 0x01 2 }
     ∷ record { start = bench true; calls = callOpen true ∷ callMode 1 0x11 ∷ sending (0x40 ∷ 0x9F ∷ []) 0x9F 0 1 ∷ callBusStart ∷ ok ∷ callReceive 0 ∷ incoming (0x04 ∷ 0x9F ∷ []) ∷ callReceive 1 ∷ []; gives = EAGAIN ∷ [] }
     ∷ record { start = bench true; calls = callOpen true ∷ callMode 1 0x11 ∷ sending (0x40 ∷ 0x9F ∷ []) 0x9F 0 1 ∷ callBusStart ∷ ok ∷ callReceive 0 ∷ incoming (0x04 ∷ 0x9F ∷ []) ∷ callBusStart ∷ []; gives = out (0x40 ∷ 0x9E ∷ 0x05 ∷ []) }
+    ∷ []
+
+-- document 02, W-203: handle 0 open, configured with version 6 and three bytes, with and without TRANSMIT
+abbrev pub modern : Bool → State
+modern transmit = after (fresh (record { transmit = transmit; monitorAll = true })) (callOpen true ∷ profile 6 0x10 0x4A 0x23 ∷ [])
+
+-- a CEC 2.0 profile
+abbrev pub featureAnswers : List Case
+featureAnswers =
+    -- configure: the first byte is free, the other two are below 128
+    record { start = unconfigured; calls = profile 6 0 0 0 ∷ []; gives = 0 ∷ [] }
+    ∷ record { start = unconfigured; calls = profile 6 255 127 127 ∷ []; gives = 0 ∷ [] }
+    ∷ record { start = unconfigured; calls = profile 6 0 128 0 ∷ []; gives = EINVAL ∷ [] }
+    ∷ record { start = unconfigured; calls = profile 6 0 0 128 ∷ []; gives = EINVAL ∷ [] }
+    -- with version 4 or 5 all three are 0
+    ∷ record { start = unconfigured; calls = profile 5 1 0 0 ∷ []; gives = EINVAL ∷ [] }
+    ∷ record { start = unconfigured; calls = profile 5 0 1 0 ∷ []; gives = EINVAL ∷ [] }
+    ∷ record { start = unconfigured; calls = profile 4 0 0 1 ∷ []; gives = EINVAL ∷ [] }
+    ∷ record { start = unconfigured; calls = profile 4 0 0 0 ∷ []; gives = 0 ∷ [] }
+    -- the EBUSY test comes first
+    ∷ record { start = bench true; calls = profile 6 0 128 0 ∷ []; gives = EBUSY ∷ [] }
+    -- A5 is answered to 15, also with parameters; the version that is told is 6
+    ∷ record { start = modern true; calls = incoming (0x04 ∷ 0xA5 ∷ []) ∷ callBusStart ∷ []; gives = out (0x4F ∷ 0xA6 ∷ 0x06 ∷ 0x10 ∷ 0x4A ∷ 0x23 ∷ []) }
+    ∷ record { start = modern true; calls = incoming (0x04 ∷ 0xA5 ∷ 0x01 ∷ 0x02 ∷ []) ∷ callBusStart ∷ []; gives = out (0x4F ∷ 0xA6 ∷ 0x06 ∷ 0x10 ∷ 0x4A ∷ 0x23 ∷ []) }
+    ∷ record { start = modern true; calls = incoming (0x04 ∷ 0x9F ∷ []) ∷ callBusStart ∷ []; gives = out (0x40 ∷ 0x9E ∷ 0x06 ∷ []) }
+    -- and not to 15, from 15, to others, or once unconfigured
+    ∷ record { start = modern true; calls = incoming (0x0F ∷ 0xA5 ∷ []) ∷ callBusStart ∷ []; gives = EAGAIN ∷ [] }
+    ∷ record { start = modern true; calls = incoming (0xF4 ∷ 0xA5 ∷ []) ∷ callBusStart ∷ []; gives = EAGAIN ∷ [] }
+    ∷ record { start = modern true; calls = incoming (0x05 ∷ 0xA5 ∷ []) ∷ callBusStart ∷ []; gives = EAGAIN ∷ [] }
+    ∷ record { start = modern true; calls = callUnconfigure ∷ incoming (0x04 ∷ 0xA5 ∷ []) ∷ callBusStart ∷ []; gives = EAGAIN ∷ [] }
+    -- without TRANSMIT, or with 18 queued, the answer is dropped, and the question still counts as answered
+    ∷ record { start = modern false; calls = incoming (0x04 ∷ 0xA5 ∷ []) ∷ callBusStart ∷ []; gives = EAGAIN ∷ [] }
+    ∷ record { start = modern true; calls = callOpen true ∷ callOpen true ∷ callMode 2 0x11 ∷ times 16 (plain 0) (plain 1 ∷ plain 1 ∷ incoming (0x04 ∷ 0xA5 ∷ []) ∷ callReceive 2 ∷ []); gives = EAGAIN ∷ [] }
+    ∷ record { start = modern true; calls = callOpen true ∷ times 16 (plain 0) (plain 1 ∷ plain 1 ∷ incoming (0x04 ∷ 0xA5 ∷ []) ∷ sentFirst 18 (callBusStart ∷ [])); gives = EAGAIN ∷ [] }
+    -- a follower gets no A5 that was answered, be it exclusive or not; under passthrough it is the follower's
+    ∷ record { start = modern true; calls = callMode 0 0x11 ∷ incoming (0x04 ∷ 0xA5 ∷ []) ∷ callReceive 0 ∷ []; gives = EAGAIN ∷ [] }
+    ∷ record { start = modern true; calls = callMode 0 0x21 ∷ incoming (0x04 ∷ 0xA5 ∷ []) ∷ callReceive 0 ∷ []; gives = EAGAIN ∷ [] }
+    ∷ record { start = modern true; calls = callMode 0 0x21 ∷ incoming (0x04 ∷ 0xA5 ∷ []) ∷ callBusStart ∷ []; gives = out (0x4F ∷ 0xA6 ∷ 0x06 ∷ 0x10 ∷ 0x4A ∷ 0x23 ∷ []) }
+    ∷ record { start = modern true; calls = callMode 0 0x31 ∷ incoming (0x04 ∷ 0xA5 ∷ []) ∷ callReceive 0 ∷ []; gives = got 0 0x00 0x01 2 }
+    ∷ record { start = modern true; calls = callMode 0 0x31 ∷ incoming (0x04 ∷ 0xA5 ∷ []) ∷ callBusStart ∷ []; gives = EAGAIN ∷ [] }
+    -- A6 is no core message
+    ∷ record { start = modern true; calls = incoming (0x04 ∷ 0xA6 ∷ []) ∷ callBusStart ∷ []; gives = out (0x40 ∷ 0x00 ∷ 0xA6 ∷ 0x00 ∷ []) }
+    -- with version 4 or 5 A5 is no core message, and unconfigure leaves nothing of a profile
+    ∷ record { start = bench true; calls = incoming (0x04 ∷ 0xA5 ∷ []) ∷ callBusStart ∷ []; gives = out (0x40 ∷ 0x00 ∷ 0xA5 ∷ 0x00 ∷ []) }
+    ∷ record { start = unconfigured; calls = profile 4 0 0 0 ∷ incoming (0x04 ∷ 0xA5 ∷ []) ∷ callBusStart ∷ []; gives = out (0x40 ∷ 0x00 ∷ 0xA5 ∷ 0x00 ∷ []) }
+    ∷ record { start = bench true; calls = callMode 0 0x11 ∷ incoming (0x04 ∷ 0xA5 ∷ []) ∷ callReceive 0 ∷ []; gives = got 0 0x00 0x01 2 }
+    ∷ record { start = modern true; calls = callUnconfigure ∷ profile 5 0 0 0 ∷ incoming (0x04 ∷ 0xA5 ∷ []) ∷ callBusStart ∷ []; gives = out (0x40 ∷ 0x00 ∷ 0xA5 ∷ 0x00 ∷ []) }
     ∷ []

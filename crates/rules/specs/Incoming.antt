@@ -10,9 +10,10 @@ use Rattle.entry.specs.declared.Entry.{Entry}
 use Rattle.message.specs.Message.{message, initiator, destination, opcode, isFeatureAbort}
 use Rattle.message.specs.declared.Message.{Message}
 use Rattle.rules.specs.Call.{Outcome, finish, unless, check, Answer}
-use Rattle.rules.specs.Core.{sends, isDirected, isRegistered, isAnswered, answers, isNoted, notes, coreAnswer, featureAbort}
+use Rattle.rules.specs.Core.{sends, isDirected, isRegistered, answers, isNoted, notes, featureAbort}
 use Rattle.rules.specs.Deliver.{deliver, copies}
 use Rattle.rules.specs.Derived.{Derived, counted}
+use Rattle.rules.specs.Features.{isAnswered, answerFor}
 use Rattle.rules.specs.Handles.{inRole, someone, followerPart, isFollower, isMonitor, isExclusiveFollower, isConfigured, isHere}
 use Rattle.rules.specs.State.{State, withWaits}
 use Rattle.waits.specs.Waits.{Taken, matchTaken}
@@ -76,7 +77,7 @@ heardWith s answered bytes m =
     cond (stops s m) copied (handled copied answered bytes (matchTaken m (s .waits)) m)
 
 abbrev pub heard : State → Message → State
-heard s m = heardWith s (isAnswered s m) (coreAnswer (s .settings) m) m
+heard s m = heardWith s (isAnswered s m) (answerFor (s .settings) m) m
 
 unfoldable pub doMessage : State → ℕ → List ℕ → Outcome
 doMessage s n bytes = unless (incomingRefusal n) s (finish Answer.done (heard s (message n bytes)))

@@ -16,6 +16,7 @@ pub mod Time
 pub mod Configure
 pub mod Unconfigure
 pub mod Core
+pub mod Features
 pub mod Incoming
 pub mod Lookup
 pub mod Listing

@@ -34,7 +34,18 @@ closedHandle = record { «is_open» = false; privileged = false; mode = 0; lost 
 
 -- as unconfigure leaves them: "address 0xFFFF, mask 0", "The other settings become 0"
 abbrev pub noSettings : Settings
-noSettings = record { «physical_address» = CEC-PHYS-ADDR-INVALID; mask = 0; version = 0; «device_type» = 0; «vendor_id» = 0; «name_length» = 0; name = replicate 14 0 }
+noSettings = record {
+  «physical_address» = CEC-PHYS-ADDR-INVALID;
+  mask = 0;
+  version = 0;
+  «device_type» = 0;
+  «vendor_id» = 0;
+  «name_length» = 0;
+  name = replicate 14 0;
+  «all_device_types» = 0;
+  «rc_profile» = 0;
+  «device_features» = 0;
+}
 
 -- "noted addresses cleared": "0xFFFF if none"
 abbrev pub noneNoted : List ℕ

@@ -14,7 +14,7 @@ use Rattle.steps.specs.declared.Chosen.{Chosen}
 
 -- `rules: isAnswered`, with the opcode's part taken from the core's work
 abbrev pub answersTo : List Handle → Work → Message → Bool
-answersTo hs work m = isDirected m && isRegistered m && not (any (inRole isPassthrough) hs) && work .«is_question»
+answersTo hs work m = (isDirected m && isRegistered m && not (any (inRole isPassthrough) hs)) && work .«is_question»
 
 -- `rules: isNoted`
 abbrev pub notesOf : Work → Message → Bool

@@ -13,6 +13,7 @@ use constants::CEC_MSG_GIVE_DEVICE_POWER_STATUS;
 use constants::CEC_MSG_IMAGE_VIEW_ON;
 use constants::CEC_MSG_REPORT_PHYSICAL_ADDR;
 use constants::CEC_MSG_REPORT_POWER_STATUS;
+use constants::CEC_OP_CEC_VERSION_1_4;
 use constants::CEC_TX_STATUS_MAX_RETRIES;
 use constants::CEC_TX_STATUS_NACK;
 use constants::CEC_TX_STATUS_OK;
@@ -40,9 +41,6 @@ const CHART: u8 = 1;
 const MONITOR: u8 = 2;
 
 const CONTROLLER: u8 = 3;
-
-// CEC version 1.4.
-const VERSION: u8 = 5;
 
 fn say(text: &[u8]) {
     io::write_all(1, text);
@@ -82,11 +80,14 @@ fn configured(adapter: Adapter) -> Adapter {
     let answer = adapter.configure(Settings {
         physical_address: 0x1000,
         mask: 0x0010,
-        version: VERSION,
+        version: CEC_OP_CEC_VERSION_1_4,
         device_type: 4,
         vendor_id: 0x00A0B0,
         name_length: 3,
         name: name,
+        all_device_types: 0,
+        rc_profile: 0,
+        device_features: 0,
     });
     say_number(b"box: configure, errno ", answer.errno);
     say(b"\n");
@@ -335,7 +336,7 @@ fn version_asked(adapter: Adapter) -> Adapter {
 fn version_told(adapter: Adapter) -> Adapter {
     let mut answer = request(BOX, DISPLAY, CEC_MSG_CEC_VERSION, 0);
     answer.length = 3;
-    answer.bytes[2] = VERSION;
+    answer.bytes[2] = CEC_OP_CEC_VERSION_1_4;
     transmitted(adapter, CONTROLLER, answer)
 }
 

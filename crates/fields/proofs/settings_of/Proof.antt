@@ -45,6 +45,15 @@ array-read-t35 c = search needs
 name-of-requires : tie.Need-name-of-requires
 name-of-requires c κs = search needs
 
+array-read-t40 : tie.Need-array-read-t40
+array-read-t40 c = search needs
+
+array-read-t43 : tie.Need-array-read-t43
+array-read-t43 c = search needs
+
+array-read-t46 : tie.Need-array-read-t46
+array-read-t46 c = search needs
+
 returns : tie.Need-returns
 returns c = rw (c .before .before .before .number-2 .ensures, c .before .before .number-22 .ensures, c .before .number-3 .ensures, c .name-of .ensures)
 
@@ -66,4 +75,7 @@ settings-of-spec =
     number-3-requires
     array-read-t35
     name-of-requires
+    array-read-t40
+    array-read-t43
+    array-read-t46
     returns)
