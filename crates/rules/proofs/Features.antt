@@ -1,6 +1,6 @@
 -- A CEC 2.0 profile (document 02, W-203): what it changes, and what it leaves as document 01 has it.
 -- Assumes nothing.
-use Prim.Native.Nat.{_+_, _*_}
+use Prim.Native.Nat.{ℕ, _+_, _*_}
 use mathlib.Core.Bool.{false, _&&_}
 use mathlib.Core.List.{[], _∷_}
 use mathlib.Core.Logic.{_⊎_, ⊎-elim, _≢_}
@@ -15,18 +15,19 @@ use Rattle.rules.specs.Core.{mayAnswer, isQuestion, coreAnswer}
 use Rattle.rules.specs.Features.{asksFeatures}
 use Rattle.rules.specs.Incoming.{heard, heardWith}
 use Rattle.rules.specs.State.{State}
+use Rattle.settings.specs.declared.Settings.{Settings}
 
--- "every message but A5, and with 4 or 5 A5 too, is dealt with as document 01 says": with its questions and its answers
+not-asked : (x : Settings) (code : ℕ) → (code ≢ CEC-MSG-GIVE-FEATURES) ⊎ (x .version ≢ CEC-OP-CEC-VERSION-2-0) → asksFeatures x code ≡ false
+not-asked x code =
+    ⊎-elim
+    (λ p. rw (ne-eqb code CEC-MSG-GIVE-FEATURES p))
+    (λ p. rw (ne-eqb (x .version) CEC-OP-CEC-VERSION-2-0 p, and-false (eqb code CEC-MSG-GIVE-FEATURES)))
+
+-- "every message but A5, and with 4 or 5 A5 too, is dealt with as document 01 says": with its questions and its answers, in every state
 pub as-document-01 : (s : State) (m : Message)
     → (opcode (m .bytes) ≢ CEC-MSG-GIVE-FEATURES) ⊎ (s .settings .version ≢ CEC-OP-CEC-VERSION-2-0)
     → heard s m ≡ heardWith s (mayAnswer s m && isQuestion (opcode (m .bytes))) (coreAnswer (s .settings) m) m
-as-document-01 s m p =
-    let e : asksFeatures (s .settings) (opcode (m .bytes)) ≡ false =
-    ⊎-elim
-    (λ q. rw (ne-eqb (opcode (m .bytes)) CEC-MSG-GIVE-FEATURES q))
-    (λ q. rw (ne-eqb (s .settings .version) CEC-OP-CEC-VERSION-2-0 q, and-false (eqb (opcode (m .bytes)) CEC-MSG-GIVE-FEATURES)))
-    p in
-    rw (e, or-false (isQuestion (opcode (m .bytes))))
+as-document-01 s m p = rw (not-asked (s .settings) (opcode (m .bytes)) p, or-false (isQuestion (opcode (m .bytes))))
 
 -- "With version 6 the core answers A5 with A6 to address 15: version and those three bytes", where it may answer at all
 pub features-answered : (s : State) (m : Message) → opcode (m .bytes) ≡ 0xA5 → s .settings .version ≡ 6
