@@ -124,13 +124,24 @@ fn name_answer(settings: Settings, asked: Message) -> Message
 fn features_answer(settings: Settings, asked: Message) -> Message
     ensures { λ r. ⌜ r ≡ messageOf (featuresAnswer settings (destination (asked .bytes))) ⌝ }
 {
-    let mut bytes = [0; 16];
-    bytes[0] = to_all(asked);
-    bytes[1] = CEC_MSG_REPORT_FEATURES;
-    bytes[2] = settings.version;
-    bytes[3] = settings.all_device_types;
-    bytes[4] = settings.rc_profile;
-    bytes[5] = settings.device_features;
+    let bytes = [
+        to_all(asked),
+        CEC_MSG_REPORT_FEATURES,
+        settings.version,
+        settings.all_device_types,
+        settings.rc_profile,
+        settings.device_features,
+        0,
+        0,
+        0,
+        0,
+        0,
+        0,
+        0,
+        0,
+        0,
+        0,
+    ];
     Message::new(6, bytes)
 }
 

@@ -196,13 +196,19 @@ fn features_asked(version: u8, types: u8, profile: u8, features: u8) -> [u8; 16]
     core_asked(adapter, 0xA5).bus_start().message.bytes()
 }
 
+fn say_byte(byte: u8) {
+    io::write_all(1, b" ");
+    io::print_hex(1, byte as u64, 2);
+}
+
 fn say_six(bytes: [u8; 16]) {
-    say(b"", bytes[0] as u32);
-    say(b" ", bytes[1] as u32);
-    say(b" ", bytes[2] as u32);
-    say(b" ", bytes[3] as u32);
-    say(b" ", bytes[4] as u32);
-    line(b" ", bytes[5] as u32);
+    say_byte(bytes[0]);
+    say_byte(bytes[1]);
+    say_byte(bytes[2]);
+    say_byte(bytes[3]);
+    say_byte(bytes[4]);
+    say_byte(bytes[5]);
+    io::write_all(1, b"\n");
 }
 
 fn say_modes() {
@@ -261,21 +267,21 @@ fn say_beside() {
 
 fn say_features() {
     line(
-        b"version 6, bytes 255 127 127: errno ",
-        configured(6, 255, 127, 127),
+        b"version 6, bytes FF 7F 7F: errno ",
+        configured(6, 0xFF, 0x7F, 0x7F),
     );
     line(
-        b"version 6, bytes 0 128 0: errno ",
-        configured(6, 0, 128, 0),
+        b"version 6, bytes 00 80 00: errno ",
+        configured(6, 0, 0x80, 0),
     );
     line(
-        b"version 6, bytes 0 0 128: errno ",
-        configured(6, 0, 0, 128),
+        b"version 6, bytes 00 00 80: errno ",
+        configured(6, 0, 0, 0x80),
     );
-    line(b"version 5, bytes 1 0 0: errno ", configured(5, 1, 0, 0));
-    io::write_all(1, b"version 6, bytes 16 74 35, came 04 A5: sent ");
-    say_six(features_asked(CEC_OP_CEC_VERSION_2_0, 16, 74, 35));
-    io::write_all(1, b"version 5, came 04 A5: sent ");
+    line(b"version 5, bytes 01 00 00: errno ", configured(5, 1, 0, 0));
+    io::write_all(1, b"version 6, bytes 10 4A 23, came 04 A5: sent");
+    say_six(features_asked(CEC_OP_CEC_VERSION_2_0, 0x10, 0x4A, 0x23));
+    io::write_all(1, b"version 5, came 04 A5: sent");
     say_six(features_asked(CEC_OP_CEC_VERSION_1_4, 0, 0, 0));
 }
 

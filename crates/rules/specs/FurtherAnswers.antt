@@ -1,4 +1,4 @@
--- More answers, worked out by hand from document 01, a table for each section: the known answers that are not starred, the checks of each call, and places that can be read in two ways.
+-- More answers, worked out by hand from document 01, a table for each section, and from W-203: the known answers that are not starred, the checks of each call, and places that can be read in two ways.
 -- Assumes nothing.
 use Prim.Native.Nat.{ℕ, zero, suc, _-_}
 use mathlib.Core.Bool.{Bool, true, false}
@@ -324,8 +324,8 @@ coreAnswers =
     ∷ []
 
 -- document 02, W-203: handle 0 open, configured with version 6 and three bytes, with and without TRANSMIT
-abbrev pub modern : Bool → State
-modern transmit = after (fresh (record { transmit = transmit; monitorAll = true })) (callOpen true ∷ profile 6 0x10 0x4A 0x23 ∷ [])
+abbrev pub version6 : Bool → State
+version6 transmit = after (fresh (record { transmit = transmit; monitorAll = true })) (callOpen true ∷ profile 6 0x10 0x4A 0x23 ∷ [])
 
 -- a CEC 2.0 profile
 abbrev pub featureAnswers : List Case
@@ -343,29 +343,29 @@ featureAnswers =
     -- the EBUSY test comes first
     ∷ record { start = bench true; calls = profile 6 0 128 0 ∷ []; gives = EBUSY ∷ [] }
     -- A5 is answered to 15, also with parameters; the version that is told is 6
-    ∷ record { start = modern true; calls = incoming (0x04 ∷ 0xA5 ∷ []) ∷ callBusStart ∷ []; gives = out (0x4F ∷ 0xA6 ∷ 0x06 ∷ 0x10 ∷ 0x4A ∷ 0x23 ∷ []) }
-    ∷ record { start = modern true; calls = incoming (0x04 ∷ 0xA5 ∷ 0x01 ∷ 0x02 ∷ []) ∷ callBusStart ∷ []; gives = out (0x4F ∷ 0xA6 ∷ 0x06 ∷ 0x10 ∷ 0x4A ∷ 0x23 ∷ []) }
-    ∷ record { start = modern true; calls = incoming (0x04 ∷ 0x9F ∷ []) ∷ callBusStart ∷ []; gives = out (0x40 ∷ 0x9E ∷ 0x06 ∷ []) }
+    ∷ record { start = version6 true; calls = incoming (0x04 ∷ 0xA5 ∷ []) ∷ callBusStart ∷ []; gives = out (0x4F ∷ 0xA6 ∷ 0x06 ∷ 0x10 ∷ 0x4A ∷ 0x23 ∷ []) }
+    ∷ record { start = version6 true; calls = incoming (0x04 ∷ 0xA5 ∷ 0x01 ∷ 0x02 ∷ []) ∷ callBusStart ∷ []; gives = out (0x4F ∷ 0xA6 ∷ 0x06 ∷ 0x10 ∷ 0x4A ∷ 0x23 ∷ []) }
+    ∷ record { start = version6 true; calls = incoming (0x04 ∷ 0x9F ∷ []) ∷ callBusStart ∷ []; gives = out (0x40 ∷ 0x9E ∷ 0x06 ∷ []) }
     -- and not to 15, from 15, to others, or once unconfigured
-    ∷ record { start = modern true; calls = incoming (0x0F ∷ 0xA5 ∷ []) ∷ callBusStart ∷ []; gives = EAGAIN ∷ [] }
-    ∷ record { start = modern true; calls = incoming (0xF4 ∷ 0xA5 ∷ []) ∷ callBusStart ∷ []; gives = EAGAIN ∷ [] }
-    ∷ record { start = modern true; calls = incoming (0x05 ∷ 0xA5 ∷ []) ∷ callBusStart ∷ []; gives = EAGAIN ∷ [] }
-    ∷ record { start = modern true; calls = callUnconfigure ∷ incoming (0x04 ∷ 0xA5 ∷ []) ∷ callBusStart ∷ []; gives = EAGAIN ∷ [] }
+    ∷ record { start = version6 true; calls = incoming (0x0F ∷ 0xA5 ∷ []) ∷ callBusStart ∷ []; gives = EAGAIN ∷ [] }
+    ∷ record { start = version6 true; calls = incoming (0xF4 ∷ 0xA5 ∷ []) ∷ callBusStart ∷ []; gives = EAGAIN ∷ [] }
+    ∷ record { start = version6 true; calls = incoming (0x05 ∷ 0xA5 ∷ []) ∷ callBusStart ∷ []; gives = EAGAIN ∷ [] }
+    ∷ record { start = version6 true; calls = callUnconfigure ∷ incoming (0x04 ∷ 0xA5 ∷ []) ∷ callBusStart ∷ []; gives = EAGAIN ∷ [] }
     -- without TRANSMIT, or with 18 queued, the answer is dropped, and the question still counts as answered
-    ∷ record { start = modern false; calls = incoming (0x04 ∷ 0xA5 ∷ []) ∷ callBusStart ∷ []; gives = EAGAIN ∷ [] }
-    ∷ record { start = modern true; calls = callOpen true ∷ callOpen true ∷ callMode 2 0x11 ∷ times 16 (plain 0) (plain 1 ∷ plain 1 ∷ incoming (0x04 ∷ 0xA5 ∷ []) ∷ callReceive 2 ∷ []); gives = EAGAIN ∷ [] }
-    ∷ record { start = modern true; calls = callOpen true ∷ times 16 (plain 0) (plain 1 ∷ plain 1 ∷ incoming (0x04 ∷ 0xA5 ∷ []) ∷ sentFirst 18 (callBusStart ∷ [])); gives = EAGAIN ∷ [] }
+    ∷ record { start = version6 false; calls = incoming (0x04 ∷ 0xA5 ∷ []) ∷ callBusStart ∷ []; gives = EAGAIN ∷ [] }
+    ∷ record { start = version6 true; calls = callOpen true ∷ callOpen true ∷ callMode 2 0x11 ∷ times 16 (plain 0) (plain 1 ∷ plain 1 ∷ incoming (0x04 ∷ 0xA5 ∷ []) ∷ callReceive 2 ∷ []); gives = EAGAIN ∷ [] }
+    ∷ record { start = version6 true; calls = callOpen true ∷ times 16 (plain 0) (plain 1 ∷ plain 1 ∷ incoming (0x04 ∷ 0xA5 ∷ []) ∷ sentFirst 18 (callBusStart ∷ [])); gives = EAGAIN ∷ [] }
     -- a follower gets no A5 that was answered, be it exclusive or not; under passthrough it is the follower's
-    ∷ record { start = modern true; calls = callMode 0 0x11 ∷ incoming (0x04 ∷ 0xA5 ∷ []) ∷ callReceive 0 ∷ []; gives = EAGAIN ∷ [] }
-    ∷ record { start = modern true; calls = callMode 0 0x21 ∷ incoming (0x04 ∷ 0xA5 ∷ []) ∷ callReceive 0 ∷ []; gives = EAGAIN ∷ [] }
-    ∷ record { start = modern true; calls = callMode 0 0x21 ∷ incoming (0x04 ∷ 0xA5 ∷ []) ∷ callBusStart ∷ []; gives = out (0x4F ∷ 0xA6 ∷ 0x06 ∷ 0x10 ∷ 0x4A ∷ 0x23 ∷ []) }
-    ∷ record { start = modern true; calls = callMode 0 0x31 ∷ incoming (0x04 ∷ 0xA5 ∷ []) ∷ callReceive 0 ∷ []; gives = got 0 0x00 0x01 2 }
-    ∷ record { start = modern true; calls = callMode 0 0x31 ∷ incoming (0x04 ∷ 0xA5 ∷ []) ∷ callBusStart ∷ []; gives = EAGAIN ∷ [] }
+    ∷ record { start = version6 true; calls = callMode 0 0x11 ∷ incoming (0x04 ∷ 0xA5 ∷ []) ∷ callReceive 0 ∷ []; gives = EAGAIN ∷ [] }
+    ∷ record { start = version6 true; calls = callMode 0 0x21 ∷ incoming (0x04 ∷ 0xA5 ∷ []) ∷ callReceive 0 ∷ []; gives = EAGAIN ∷ [] }
+    ∷ record { start = version6 true; calls = callMode 0 0x21 ∷ incoming (0x04 ∷ 0xA5 ∷ []) ∷ callBusStart ∷ []; gives = out (0x4F ∷ 0xA6 ∷ 0x06 ∷ 0x10 ∷ 0x4A ∷ 0x23 ∷ []) }
+    ∷ record { start = version6 true; calls = callMode 0 0x31 ∷ incoming (0x04 ∷ 0xA5 ∷ []) ∷ callReceive 0 ∷ []; gives = got 0 0x00 0x01 2 }
+    ∷ record { start = version6 true; calls = callMode 0 0x31 ∷ incoming (0x04 ∷ 0xA5 ∷ []) ∷ callBusStart ∷ []; gives = EAGAIN ∷ [] }
     -- A6 is no core message
-    ∷ record { start = modern true; calls = incoming (0x04 ∷ 0xA6 ∷ []) ∷ callBusStart ∷ []; gives = out (0x40 ∷ 0x00 ∷ 0xA6 ∷ 0x00 ∷ []) }
+    ∷ record { start = version6 true; calls = incoming (0x04 ∷ 0xA6 ∷ []) ∷ callBusStart ∷ []; gives = out (0x40 ∷ 0x00 ∷ 0xA6 ∷ 0x00 ∷ []) }
     -- with version 4 or 5 A5 is no core message, and unconfigure leaves nothing of a profile
     ∷ record { start = bench true; calls = incoming (0x04 ∷ 0xA5 ∷ []) ∷ callBusStart ∷ []; gives = out (0x40 ∷ 0x00 ∷ 0xA5 ∷ 0x00 ∷ []) }
     ∷ record { start = unconfigured; calls = profile 4 0 0 0 ∷ incoming (0x04 ∷ 0xA5 ∷ []) ∷ callBusStart ∷ []; gives = out (0x40 ∷ 0x00 ∷ 0xA5 ∷ 0x00 ∷ []) }
     ∷ record { start = bench true; calls = callMode 0 0x11 ∷ incoming (0x04 ∷ 0xA5 ∷ []) ∷ callReceive 0 ∷ []; gives = got 0 0x00 0x01 2 }
-    ∷ record { start = modern true; calls = callUnconfigure ∷ profile 5 0 0 0 ∷ incoming (0x04 ∷ 0xA5 ∷ []) ∷ callBusStart ∷ []; gives = out (0x40 ∷ 0x00 ∷ 0xA5 ∷ 0x00 ∷ []) }
+    ∷ record { start = version6 true; calls = callUnconfigure ∷ profile 5 0 0 0 ∷ incoming (0x04 ∷ 0xA5 ∷ []) ∷ callBusStart ∷ []; gives = out (0x40 ∷ 0x00 ∷ 0xA5 ∷ 0x00 ∷ []) }
     ∷ []

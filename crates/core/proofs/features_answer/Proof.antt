@@ -8,24 +8,6 @@ use Rattle.core.proofs.features_answer.Tie as tie
 to-all-requires : tie.Need-to-all-requires
 to-all-requires c κs = search needs
 
-array-write-bytes : tie.Need-array-write-bytes
-array-write-bytes c = search needs
-
-array-write-bytes-2 : tie.Need-array-write-bytes-2
-array-write-bytes-2 c = search needs
-
-array-write-bytes-3 : tie.Need-array-write-bytes-3
-array-write-bytes-3 c = search needs
-
-array-write-bytes-4 : tie.Need-array-write-bytes-4
-array-write-bytes-4 c = search needs
-
-array-write-bytes-5 : tie.Need-array-write-bytes-5
-array-write-bytes-5 c = search needs
-
-array-write-bytes-6 : tie.Need-array-write-bytes-6
-array-write-bytes-6 c = search needs
-
 new-requires : tie.Need-new-requires
 new-requires c κs = search needs
 
@@ -34,15 +16,4 @@ unfolding message
 returns c = c .new .ensures ∙ rw (c .before .to-all .ensures)
 
 pub features-answer-spec : {M : Type 1} → statement M
-features-answer-spec =
-    tie.close
-    (tie.spec
-    to-all-requires
-    array-write-bytes
-    array-write-bytes-2
-    array-write-bytes-3
-    array-write-bytes-4
-    array-write-bytes-5
-    array-write-bytes-6
-    new-requires
-    returns)
+features-answer-spec = tie.close (tie.spec to-all-requires new-requires returns)
