@@ -1,24 +1,20 @@
--- The bits of a mask, counted one after the other.
+-- The language's own count of set bits is the count of the places one after the other, whatever the width.
 -- Assumes nothing.
-use Prim.Native.Nat.{ℕ, _+_, _%_, _/_, _^_, _<_}
-use mathlib.Core.Path.{_≡_, refl, sym}
+use Prim.Native.Nat.{ℕ, zero, suc, _+_, _%_, _/_, _^_, _<_}
+use mathlib.Core.Bool.{_&&_}
+use mathlib.Core.Path.{_≡_, ap, _∙_}
+use native.Mathlib.Nat.{div-eq-of-lt, div-one}
+use native.Mathlib.Numerals.{add-one}
 use native.Mathlib.Omega.{arith}
-use lib.Dec.{eqb}
-use lib.ListN.{getD, take}
-use borrow.Author.Tests.{eqb-true, eqb-false}
-use Rattle.lists.specs.Below.{below}
-use Rattle.lists.specs.Sums.{count, sum-next}
+use lib.Count.{ones, ones-step}
+use lib.Dec.{eqb, leb, ltb}
+use lib.Pow.{shr-shr}
+use borrow.Author.Tests.{eqb-true, eqb-false, ltb-true}
+use Rattle.configure.specs.Mask.{setBits}
+use Rattle.lists.specs.Sums.{count}
 use Rattle.lists.specs.Tests.{bit, split}
-use Rattle.rules.specs.Configure.{logicalAddresses}
+use Rattle.rules.specs.Configure.{logicalAddresses, isMask}
 use Rattle.rules.specs.Handles.{hasBit}
-
--- the bits of the first addresses
-abbrev pub bitsBelow : ℕ → ℕ → ℕ
-bitsBelow mask i = count (λ a. hasBit (2 ^ a) mask) (take i logicalAddresses)
-
--- the address at each place is that place
-address-at : (i : ℕ) → i < 15 → getD logicalAddresses i 0 ≡ i
-address-at i h = eqb-true (getD logicalAddresses i 0) i (below (λ k. eqb (getD logicalAddresses k 0) k) 15 refl i h)
 
 -- the last bit of a number
 last-bit : (n : ℕ) → n % 2 ≡ bit (eqb (n % 2) 1)
@@ -27,9 +23,25 @@ last-bit n =
     (λ e. rw e (eqb-true (n % 2) 1 e))
     (λ e. rw e (omega (arith, eqb-false (n % 2) 1 e)))
 
--- one more bit is looked at
-pub bits-next : (mask i : ℕ) → i < 15 → bitsBelow mask i + mask / 2 ^ i % 2 ≡ bitsBelow mask (i + 1)
-bits-next mask i h =
-    let next = sum-next (λ a. bit (hasBit (2 ^ a) mask)) logicalAddresses i 0 h in
-    let here : bit (hasBit (2 ^ getD logicalAddresses i 0) mask) ≡ mask / 2 ^ i % 2 = rw (address-at i h) (sym (last-bit (mask / 2 ^ i))) in
-    omega (arith, next, here)
+-- the bits below a width, and those above
+ones-apart : (width n : ℕ) → ones n ≡ setBits width n + ones (n / 2 ^ width)
+ones-apart zero n = omega (arith, ap ones (div-one n))
+ones-apart (suc width) n =
+    let above = n / 2 ^ width in
+    let halved : above / 2 ≡ n / 2 ^ suc width = shr-shr n width 1 ∙ ap (λ (k : ℕ). n / 2 ^ k) (add-one width) in
+    omega (arith, ones-apart width n, ones-step above, last-bit above, ap ones halved)
+
+-- a number of this width has none above
+pub ones-all : (width n : ℕ) → n < 2 ^ width → ones n ≡ setBits width n
+unfolding ones
+ones-all width n h = ones-apart width n ∙ ap (λ (above : ℕ). setBits width n + ones above) (div-eq-of-lt h) ∙ omega arith
+
+-- "mask of 1 to 4 bits among 0 to 14" by the count of all 16: below 2 ^ 15 both counts agree
+pub mask-counted : (mask : ℕ) → (ltb mask (2 ^ 15) && leb 1 (setBits 16 mask) && leb (setBits 16 mask) 4) ≡ isMask mask
+mask-counted mask =
+    split (ltb mask (2 ^ 15))
+    (λ e.
+    let h = ltb-true mask (2 ^ 15) e in
+    let same : setBits 16 mask ≡ count (λ a. hasBit (2 ^ a) mask) logicalAddresses = omega (arith, ones-all 16 mask (omega arith), ones-all 15 mask h) in
+    rw (e, same))
+    (λ e. rw e)

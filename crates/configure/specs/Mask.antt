@@ -1,10 +1,10 @@
--- The bits of a mask of logical addresses (document 01, "Wire, time and configuration").
+-- The set bits of a mask (document 02, W-204).
 -- Assumes nothing.
 use Prim.Native.Nat.{ℕ, _^_}
-use Rattle.lists.specs.Sums.{count}
-use Rattle.rules.specs.Configure.{logicalAddresses}
+use Rattle.lists.specs.Pigeonhole.{upto}
+use Rattle.lists.specs.Tests.{bit}
 use Rattle.rules.specs.Handles.{hasBit}
 
--- how many of the bits 0 to 14 are set
-abbrev pub bitsOf : ℕ → ℕ
-bitsOf mask = count (λ a. hasBit (2 ^ a) mask) logicalAddresses
+-- how many bits are set at the places below a width
+abbrev pub setBits : ℕ → ℕ → ℕ
+setBits width mask = upto (λ place. bit (hasBit (2 ^ place) mask)) width

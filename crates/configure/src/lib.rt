@@ -4,10 +4,9 @@ ghost use mathlib.Core.List.{_++_};
 ghost use mathlib.Core.Logic.{_≢_};
 ghost use mathlib.Core.Path.{_≡_};
 ghost use lib.ListN.{take, replicate};
-ghost use Rattle.configure.specs.Mask.{bitsOf};
+ghost use Rattle.configure.specs.Mask.{setBits};
 ghost use Rattle.parts.specs.Parts.{stateOf, doneOf};
 ghost use Rattle.rules.specs.Configure.{doConfigure, configureRefusal, isMask, isVersion1, isVersion2, isDeviceType, isSettings, keptSettings};
-use constants::CEC_LOG_ADDR_UNREGISTERED;
 use constants::CEC_OP_CEC_VERSION_1_3A;
 use constants::CEC_OP_CEC_VERSION_1_4;
 use constants::CEC_OP_CEC_VERSION_2_0;
@@ -19,17 +18,11 @@ use parts::Parts;
 use parts::check;
 use settings::Settings;
 
-// How many of the bits 0 to 14 are set.
-fn bits_of(mask: u16) -> u16
-    ensures { λ r. ⌜ r ≡ bitsOf mask ⌝ }
+// How many bits are set, by the language's own count, which has no loop (document 02, W-204).
+fn bits_of(mask: u16) -> u32
+    ensures { λ r. ⌜ r ≡ setBits 16 mask ⌝ }
 {
-    let mut bits = 0;
-    let mut address: u8 = 0;
-    while address < CEC_LOG_ADDR_UNREGISTERED {
-        bits += (mask >> address) % 2;
-        address += 1;
-    }
-    bits
+    u16::count_ones(mask)
 }
 
 // A mask of 1 to 4 bits among 0 to 14.

@@ -1,4 +1,4 @@
-// The known answers of document 01, and those of W-202 and W-203, asked of the code: one line for each case with what it gave.
+// The known answers of document 01, and those of W-202 to W-204, asked of the code: one line for each case with what it gave.
 use adapter::Adapter;
 use constants::CEC_MODE_EXCL_INITIATOR;
 use constants::CEC_OP_CEC_VERSION_1_4;
@@ -21,22 +21,32 @@ fn line(text: &[u8], number: u32) {
     io::write_all(1, b"\n");
 }
 
-// Address 0x1000, mask 0x0010, a version with its three bytes.
-fn settings(version: u8, types: u8, profile: u8, features: u8) -> Settings {
+// Address 0x1000, a mask, version 5.
+fn masked(mask: u16) -> Settings {
     let mut name = [0; 14];
     name[0] = 0x42;
     Settings {
         physical_address: 0x1000,
-        mask: 0x0010,
-        version: version,
+        mask: mask,
+        version: CEC_OP_CEC_VERSION_1_4,
         device_type: 4,
         vendor_id: 0x00A0B0,
         name_length: 1,
         name: name,
-        all_device_types: types,
-        rc_profile: profile,
-        device_features: features,
+        all_device_types: 0,
+        rc_profile: 0,
+        device_features: 0,
     }
+}
+
+// Mask 0x0010, a version with its three bytes.
+fn settings(version: u8, types: u8, profile: u8, features: u8) -> Settings {
+    let mut settings = masked(0x0010);
+    settings.version = version;
+    settings.all_device_types = types;
+    settings.rc_profile = profile;
+    settings.device_features = features;
+    settings
 }
 
 // Both capabilities, handle 0 alone open, in mode 0x01.
@@ -188,6 +198,11 @@ fn configured(version: u8, types: u8, profile: u8, features: u8) -> u32 {
         .errno
 }
 
+// The errno of a configure with a mask (W-204).
+fn owning(mask: u16) -> u32 {
+    Adapter::fresh(true, true).configure(masked(mask)).errno
+}
+
 // What is sent when A5 comes, under a version with its three bytes.
 fn features_asked(version: u8, types: u8, profile: u8, features: u8) -> [u8; 16] {
     let adapter = Adapter::fresh(true, true)
@@ -285,6 +300,15 @@ fn say_features() {
     say_six(features_asked(CEC_OP_CEC_VERSION_1_4, 0, 0, 0));
 }
 
+fn say_masks() {
+    line(b"mask 0x0000: errno ", owning(0x0000));
+    line(b"mask 0x000F: errno ", owning(0x000F));
+    line(b"mask 0x001F: errno ", owning(0x001F));
+    line(b"mask 0x8001: errno ", owning(0x8001));
+    line(b"mask 0x7800: errno ", owning(0x7800));
+    line(b"mask 0x7FFF: errno ", owning(0x7FFF));
+}
+
 fn main() {
     say_modes();
     say(b"poll 44: errno ", poll().errno);
@@ -297,4 +321,5 @@ fn main() {
     say_queue();
     say_beside();
     say_features();
+    say_masks();
 }

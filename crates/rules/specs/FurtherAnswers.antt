@@ -236,6 +236,12 @@ configurationAnswers =
     ∷ record { start = unconfigured; calls = setting 0x1000 0x0000 5 4 0 1 ∷ []; gives = EINVAL ∷ [] }
     ∷ record { start = unconfigured; calls = setting 0x1000 0x8010 5 4 0 1 ∷ []; gives = EINVAL ∷ [] }
     ∷ record { start = unconfigured; calls = setting 0x1000 0x001F 5 4 0 1 ∷ []; gives = EINVAL ∷ [] }
+    ∷ record { start = unconfigured; calls = setting 0x1000 0x8001 5 4 0 1 ∷ []; gives = EINVAL ∷ [] }
+    ∷ record { start = unconfigured; calls = setting 0x1000 0x8000 5 4 0 1 ∷ []; gives = EINVAL ∷ [] }
+    ∷ record { start = unconfigured; calls = setting 0x1000 0x7FFF 5 4 0 1 ∷ []; gives = EINVAL ∷ [] }
+    ∷ record { start = unconfigured; calls = setting 0x1000 0x000F 5 4 0 1 ∷ []; gives = 0 ∷ [] }
+    ∷ record { start = unconfigured; calls = setting 0x1000 0x7800 5 4 0 1 ∷ []; gives = 0 ∷ [] }
+    ∷ record { start = unconfigured; calls = setting 0x1000 0x4000 5 4 0 1 ∷ []; gives = 0 ∷ [] }
     ∷ record { start = unconfigured; calls = setting 0x1000 0x0010 3 4 0 1 ∷ []; gives = EINVAL ∷ [] }
     ∷ record { start = unconfigured; calls = setting 0x1000 0x0010 7 4 0 1 ∷ []; gives = EINVAL ∷ [] }
     ∷ record { start = unconfigured; calls = setting 0x1000 0x0010 5 2 0 1 ∷ []; gives = EINVAL ∷ [] }
