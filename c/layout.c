@@ -56,6 +56,7 @@ PLACE(CLOTHBADGER_CAPABILITIES, can_transmit, 1);
 PLACE(CLOTHBADGER_CAPABILITIES + 1, can_monitor_all, 1);
 PLACE(CLOTHBADGER_PHYSICAL_ADDRESS, settings.physical_address, 2);
 PLACE(CLOTHBADGER_NOTED, noted, 30);
+PLACE(CLOTHBADGER_ACTIVE_ADDRESS, active, 2);
 _Static_assert(BYTES(adapter_Adapter, parts.queue.slots) / BYTES(adapter_Adapter, parts.queue.slots[0]) == CLOTHBADGER_QUEUE_SLOTS,
                "slots of the queue");
 
@@ -114,6 +115,14 @@ SAME(cec_lookup_answer, rows_Noted, error);
 SAME(cec_lookup_answer, rows_Noted, address);
 NO_PADDING(cec_lookup_answer,
            BYTES(cec_lookup_answer, error) + BYTES(cec_lookup_answer, address) + BYTES(cec_lookup_answer, reserved));
+
+SIZES(cec_route_answer, route_Route);
+SAME(cec_route_answer, route_Route, error);
+SAME(cec_route_answer, route_Route, ancestor);
+SAME(cec_route_answer, route_Route, on_path);
+SAME(cec_route_answer, route_Route, port);
+NO_PADDING(cec_route_answer, BYTES(cec_route_answer, error) + BYTES(cec_route_answer, ancestor) + BYTES(cec_route_answer, on_path)
+                                 + BYTES(cec_route_answer, port));
 
 SIZES(cec_after, adapter_Done);
 SAME_STRUCT(cec_after, adapter_Done, adapter);

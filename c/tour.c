@@ -185,6 +185,50 @@ static void report(void)
     look_up(CEC_LOG_ADDR_BROADCAST);
 }
 
+static void show_address(const char *text, unsigned address)
+{
+    printf("%s%u.%u.%u.%u", text, address >> 12, address >> 8 & 15, address >> 4 & 15, address & 15);
+}
+
+static void show_picture(void)
+{
+    uint16_t active = cec_active_address(&adapter);
+    if (active == CEC_PHYS_ADDR_INVALID)
+        printf("box: no picture");
+    else
+        show_address("box: the picture is at ", active);
+    puts("");
+}
+
+static void show_way(uint16_t first, uint16_t second)
+{
+    struct cec_route_answer way = cec_route(first, second);
+    show_address("way: from ", first);
+    show_address(" to ", second);
+    show_address(", common ancestor ", way.ancestor);
+    if (way.on_path)
+        printf(", port %u\n", way.port);
+    else
+        puts(", off the path");
+}
+
+/* The amplifier changes its input from 1.0.0.0, the box, to 2.1.0.0; the display asks for the box again. */
+static void picture(void)
+{
+    uint8_t from_amplifier = header(AMPLIFIER, CEC_LOG_ADDR_BROADCAST);
+    uint8_t from_display = header(DISPLAY, CEC_LOG_ADDR_BROADCAST);
+    show_picture();
+    show_message(AMPLIFIER, CEC_MSG_ROUTING_CHANGE);
+    cec_received(&adapter, (struct cec_message){.length = 6, .bytes = {from_amplifier, CEC_MSG_ROUTING_CHANGE, 0x10, 0, 0x21}});
+    show_picture();
+    show_way(0x0000, 0x2100);
+    show_way(0x2000, 0x2100);
+    show_way(0x1000, 0x2100);
+    show_message(DISPLAY, CEC_MSG_SET_STREAM_PATH);
+    cec_received(&adapter, (struct cec_message){.length = 4, .bytes = {from_display, CEC_MSG_SET_STREAM_PATH, 0x10}});
+    show_picture();
+}
+
 static void set_mode(uint8_t handle, uint32_t mode)
 {
     printf("%s: mode %" PRIu32 ", errno %" PRIu32 "\n", program(handle), mode, cec_set_mode(&adapter, handle, mode));
@@ -268,8 +312,10 @@ int main(void)
     no_replies();
     not_taken();
     report();
+    picture();
     watch();
     control();
     unconfigure();
+    show_picture();
     return 0;
 }

@@ -14,7 +14,7 @@
  * function. -Wconversion shows where.
  *
  * An error is a number of Linux's errno.h, 0 for success. A call that is refused changes nothing, and
- * all else in its answer is 0: handle, sequence, tx_status, entry, message, address.
+ * all else in its answer is 0: handle, sequence, tx_status, entry, message, address, ancestor, on_path, port.
  */
 #ifndef CLOTHBADGER_H
 #define CLOTHBADGER_H
@@ -71,12 +71,16 @@ extern "C" {
 #define CEC_MSG_TEXT_VIEW_ON             0x0d
 #define CEC_MSG_GIVE_OSD_NAME            0x46
 #define CEC_MSG_SET_OSD_NAME             0x47
+#define CEC_MSG_ROUTING_CHANGE           0x80
+#define CEC_MSG_ACTIVE_SOURCE            0x82
 #define CEC_MSG_GIVE_PHYSICAL_ADDR       0x83
 #define CEC_MSG_REPORT_PHYSICAL_ADDR     0x84
+#define CEC_MSG_SET_STREAM_PATH          0x86
 #define CEC_MSG_DEVICE_VENDOR_ID         0x87
 #define CEC_MSG_GIVE_DEVICE_VENDOR_ID    0x8c
 #define CEC_MSG_GIVE_DEVICE_POWER_STATUS 0x8f
 #define CEC_MSG_REPORT_POWER_STATUS      0x90
+#define CEC_MSG_INACTIVE_SOURCE          0x9d
 #define CEC_MSG_CEC_VERSION              0x9e
 #define CEC_MSG_GET_CEC_VERSION          0x9f
 #define CEC_MSG_GIVE_FEATURES            0xa5
@@ -122,7 +126,7 @@ CLOTHBADGER_STATIC_ASSERT(CLOTHBADGER_ALIGNOF(struct cec_adapter) == 8, "alignme
 
 /*
  * For cec_new(), where a fresh adapter is not 0: the owner in each slot of the queue and on the wire (nobody), the capabilities,
- * the physical address and the noted ones (invalid).
+ * the physical address, the noted ones and the active one (invalid).
  */
 #define CLOTHBADGER_QUEUE_SLOTS       18
 #define CLOTHBADGER_QUEUE_OWNER(slot) (3652 + 32 * (slot))
@@ -130,6 +134,7 @@ CLOTHBADGER_STATIC_ASSERT(CLOTHBADGER_ALIGNOF(struct cec_adapter) == 8, "alignme
 #define CLOTHBADGER_CAPABILITIES      5400
 #define CLOTHBADGER_PHYSICAL_ADDRESS  5408
 #define CLOTHBADGER_NOTED             5440
+#define CLOTHBADGER_ACTIVE_ADDRESS    5470
 
 /*
  * A message: the first byte is initiator and destination, the second the opcode.
@@ -237,6 +242,13 @@ struct cec_lookup_answer {
     uint8_t reserved[2];
 };
 
+struct cec_route_answer {
+    uint32_t error;
+    uint16_t ancestor;
+    bool on_path;
+    uint8_t port;
+};
+
 /* The adapter after a call, and the answer. */
 struct cec_after {
     struct cec_adapter adapter;
@@ -287,6 +299,15 @@ struct cec_after cec_adapter_configure(struct cec_adapter adapter, struct cec_se
 struct cec_after cec_adapter_unconfigure(struct cec_adapter adapter);
 uint32_t cec_adapter_listing(struct cec_adapter adapter, struct cec_row *rows, size_t count);
 struct cec_lookup_answer cec_adapter_lookup(struct cec_adapter adapter, uint8_t address);
+uint16_t cec_adapter_active_address(struct cec_adapter adapter);
+
+/*
+ * The way between two physical addresses, of four hex digits each: 0x2100 is 2.1.0.0, at port 1 of 2.0.0.0. Their deepest common
+ * ancestor, an address being its own; whether the first lies on the path from 0.0.0.0 to the second, which it does if they are
+ * equal; and through which of the first's ports that path goes on, 1 to 15, or 0 if they are equal or the first is off the path.
+ * EINVAL: a digit other than 0 follows a 0, or an address is CEC_PHYS_ADDR_INVALID.
+ */
+struct cec_route_answer cec_route(uint16_t first, uint16_t second);
 
 /*
  * Whether the received bytes are the reply to the sent bytes, with the opcode
@@ -328,6 +349,7 @@ static inline void cec_new(struct cec_adapter *adapter, bool can_transmit, bool 
     cec_copy_bytes(adapter, &fresh, CLOTHBADGER_CAPABILITIES, 2);
     cec_copy_bytes(adapter, &fresh, CLOTHBADGER_PHYSICAL_ADDRESS, 2);
     cec_copy_bytes(adapter, &fresh, CLOTHBADGER_NOTED, 30);
+    cec_copy_bytes(adapter, &fresh, CLOTHBADGER_ACTIVE_ADDRESS, 2);
 }
 
 /* Opens the lowest closed handle, in mode CEC_MODE_INITIATOR. Privileged stands for CAP_NET_ADMIN. EMFILE: eight are open. */
@@ -441,7 +463,7 @@ static inline uint32_t cec_configure(struct cec_adapter *adapter, struct cec_set
 }
 
 /*
- * Clears the addresses, noted ones too, and the other settings: all transmits and waits end, with CEC_TX_STATUS_ABORTED or
+ * Clears the addresses, noted ones and the active one too, and the other settings: all transmits and waits end, with CEC_TX_STATUS_ABORTED or
  * CEC_RX_STATUS_ABORTED. Always 0.
  */
 static inline uint32_t cec_unconfigure(struct cec_adapter *adapter)
@@ -469,6 +491,16 @@ static inline struct cec_lookup_answer cec_lookup(const struct cec_adapter *adap
     answer.error = noted.error;
     answer.address = noted.address;
     return answer;
+}
+
+/*
+ * The physical address that has the picture, CEC_PHYS_ADDR_INVALID for none, by the messages that came from the wire while the
+ * adapter was configured: the last CEC_MSG_ACTIVE_SOURCE, CEC_MSG_ROUTING_CHANGE (the second address) or CEC_MSG_SET_STREAM_PATH
+ * to all, until CEC_MSG_INACTIVE_SOURCE names the same address.
+ */
+static inline uint16_t cec_active_address(const struct cec_adapter *adapter)
+{
+    return cec_adapter_active_address(*adapter);
 }
 
 #ifdef __cplusplus

@@ -11,7 +11,7 @@ use Rattle.entry.specs.Entry.{noEntry}
 use Rattle.message.specs.Message.{noMessage}
 use Rattle.parts.specs.Parts as parts
 use Rattle.parts.specs.Parts.{orRefused}
-use Rattle.rules.specs.Call.{Outcome, finish, done, opened, accepted, received, started}
+use Rattle.rules.specs.Call.{Outcome, finish, done, opened, accepted, received, started, address}
 use Rattle.rules.specs.State.{State}
 
 abbrev pub stateOf : Adapter → State
@@ -31,6 +31,10 @@ receivedOf r = finish (orRefused (r .errno) (received (r .entry))) (stateOf (r .
 
 abbrev pub startedOf : Started → Outcome
 startedOf r = finish (orRefused (r .errno) (started (r .message))) (stateOf (r .adapter))
+
+-- the active address: the state is the one before
+abbrev pub activeOf : State → ℕ → Outcome
+activeOf s active = finish (address active) s
 
 -- "A refusal returns its number and no other content; nothing changes": the whole answer of a call that is refused is the adapter that came in, the number, and 0 or nothing for what the call gives
 abbrev pub refusedCall : Adapter → ℕ → Done

@@ -1,10 +1,10 @@
 // The adapter and its calls, each exactly its rule. A refused call hands back the adapter that came in, its number, and nothing else.
 ghost use mathlib.Core.Logic.{_≢_};
 ghost use mathlib.Core.Path.{_≡_};
-ghost use Rattle.adapter.specs.Adapter.{stateOf, doneOf, openedOf, transmittedOf, receivedOf, startedOf, refusedCall, refusedOpen, refusedTransmit, refusedReceive, refusedBusStart};
+ghost use Rattle.adapter.specs.Adapter.{stateOf, doneOf, openedOf, transmittedOf, receivedOf, startedOf, activeOf, refusedCall, refusedOpen, refusedTransmit, refusedReceive, refusedBusStart};
 ghost use Rattle.request.specs.Request.{requestOf};
 ghost use Rattle.rows.specs.Noted.{notedOf, refusedLookup};
-ghost use Rattle.rules.specs.Call.{callOpen, callClose, callMode, callTransmit, callReceive, callBusStart, callBusResult, callMessage, callTime, callConfigure, callUnconfigure, callLookup};
+ghost use Rattle.rules.specs.Call.{callOpen, callClose, callMode, callTransmit, callReceive, callBusStart, callBusResult, callMessage, callTime, callConfigure, callUnconfigure, callLookup, callActiveAddress};
 ghost use Rattle.rules.specs.Listing.{rowOf};
 ghost use Rattle.rules.specs.State.{fresh};
 ghost use Rattle.rules.specs.Step.{step};
@@ -164,7 +164,7 @@ impl Adapter {
         ensures { λ r. ⌜ doneOf r ≡ step (stateOf self) (callMessage length bytes) ⌝ }
         ensures { λ r. ⌜ (r .errno ≢ 0 → r ≡ refusedCall self (r .errno)) ⌝ }
     {
-        let heard = incoming::message(self.parts, length, bytes);
+        let heard = tracker::message(self.parts, length, bytes);
         let parts = heard.parts;
         Done {
             adapter: Adapter { parts: parts },
@@ -220,5 +220,12 @@ impl Adapter {
         ensures { λ r. ⌜ (r .errno ≢ 0 → r ≡ refusedLookup (r .errno)) ⌝ }
     {
         rows::noted_address(self.parts, address)
+    }
+
+    // The physical address that has the picture, 0xFFFF for none. It changes nothing either.
+    pub fn active_address(self) -> u16
+        ensures { λ r. ⌜ activeOf (stateOf self) r ≡ step (stateOf self) callActiveAddress ⌝ }
+    {
+        self.parts.active
     }
 }

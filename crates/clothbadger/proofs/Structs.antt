@@ -27,6 +27,8 @@ use Rattle.handle.proofs.Row as Row
 use Rattle.handle.proofs.Row.Laws as Row′
 use Rattle.message.proofs.Message as Message
 use Rattle.message.proofs.Message.Laws as Message′
+use Rattle.route.proofs.Route as Route
+use Rattle.route.proofs.Route.Laws as Route′
 use Rattle.rows.proofs.Noted as Noted
 use Rattle.rows.proofs.Noted.Laws as Noted′
 use Rattle.settings.proofs.Settings as Settings
@@ -80,6 +82,9 @@ row = (λ d. refl, (refl, (refl, refl)))
 
 noted : HasLayout Noted.struct Noted′.mir (λ d. (d .errno, (d .address, tt))) (0 ∷ 4 ∷ []) 8 4
 noted = (λ d. refl, (refl, (refl, refl)))
+
+route : HasLayout Route.struct Route′.mir (λ d. (d .errno, (d .ancestor, (d .«on_path», (d .port, tt))))) (0 ∷ 4 ∷ 6 ∷ 7 ∷ []) 8 4
+route = (λ d. refl, (refl, (refl, refl)))
 
 done : HasLayout Done.struct Done′.mir (λ d. (d .adapter, (d .errno, tt))) (0 ∷ 5472 ∷ []) 5480 8
 done = (λ d. refl, (refl, (refl, refl)))

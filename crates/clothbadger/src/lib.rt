@@ -3,13 +3,14 @@ ghost use mathlib.Core.Logic.{_≢_};
 ghost use mathlib.Core.Path.{_≡_};
 ghost use prog.Memory.{size};
 ghost use Rattle.adapter.proofs.Adapter.Laws as adapter-laws;
-ghost use Rattle.adapter.specs.Adapter.{stateOf, doneOf, openedOf, transmittedOf, receivedOf, startedOf, refusedCall, refusedOpen, refusedTransmit, refusedReceive, refusedBusStart};
+ghost use Rattle.adapter.specs.Adapter.{stateOf, doneOf, openedOf, transmittedOf, receivedOf, startedOf, activeOf, refusedCall, refusedOpen, refusedTransmit, refusedReceive, refusedBusStart};
 ghost use Rattle.listing.specs.Rows.{Lists};
 ghost use Rattle.lists.specs.Tests.{bit};
 ghost use Rattle.message.specs.Reply.{isReply};
 ghost use Rattle.request.specs.Request.{requestOf};
+ghost use Rattle.route.specs.Route.{routeOf};
 ghost use Rattle.rows.specs.Noted.{notedOf, refusedLookup};
-ghost use Rattle.rules.specs.Call.{callOpen, callClose, callMode, callTransmit, callReceive, callBusStart, callBusResult, callMessage, callTime, callConfigure, callUnconfigure, callLookup};
+ghost use Rattle.rules.specs.Call.{callOpen, callClose, callMode, callTransmit, callReceive, callBusStart, callBusResult, callMessage, callTime, callConfigure, callUnconfigure, callLookup, callActiveAddress};
 ghost use Rattle.rules.specs.State.{fresh};
 ghost use Rattle.rules.specs.Step.{step};
 use adapter::Adapter;
@@ -22,6 +23,7 @@ use entry::Counts;
 use handle::Row;
 use message::Message;
 use request::Request;
+use route::Route;
 use rows::Noted;
 use settings::Settings;
 
@@ -149,6 +151,22 @@ pub extern "C" fn cec_adapter_lookup(adapter: Adapter, address: u8) -> Noted
     ensures { λ r. ⌜ (r .errno ≢ 0 → r ≡ refusedLookup (r .errno)) ⌝ }
 {
     adapter.lookup(address)
+}
+
+// The physical address that has the picture, 0xFFFF for none. It changes nothing either.
+#[no_mangle]
+pub extern "C" fn cec_adapter_active_address(adapter: Adapter) -> u16
+    ensures { λ r. ⌜ activeOf (stateOf adapter) r ≡ step (stateOf adapter) callActiveAddress ⌝ }
+{
+    adapter.active_address()
+}
+
+// The way between two physical addresses: their deepest common ancestor, whether the first lies on the path to the second, and through which of its ports.
+#[no_mangle]
+pub extern "C" fn cec_route(first: u16, second: u16) -> Route
+    ensures { λ r. ⌜ r ≡ routeOf first second ⌝ }
+{
+    route::between(first, second)
 }
 
 // The reply test on bytes: 1 for a match, 0 for none.

@@ -65,7 +65,7 @@ pub const CEC_RX_STATUS_ABORTED: u8 = 0x08;
 // The flag of a transmit (linux/cec.h).
 pub const CEC_MSG_FL_REPLY_TO_FOLLOWERS: u32 = 1;
 
-// Opcodes (document 01, "A message from the wire"; document 02, W-203; linux/cec.h).
+// Opcodes (document 01, "A message from the wire"; document 02, W-203 and W-205; linux/cec.h).
 pub const CEC_MSG_FEATURE_ABORT: u8 = 0x00;
 
 pub const CEC_MSG_IMAGE_VIEW_ON: u8 = 0x04;
@@ -76,9 +76,15 @@ pub const CEC_MSG_GIVE_OSD_NAME: u8 = 0x46;
 
 pub const CEC_MSG_SET_OSD_NAME: u8 = 0x47;
 
+pub const CEC_MSG_ROUTING_CHANGE: u8 = 0x80;
+
+pub const CEC_MSG_ACTIVE_SOURCE: u8 = 0x82;
+
 pub const CEC_MSG_GIVE_PHYSICAL_ADDR: u8 = 0x83;
 
 pub const CEC_MSG_REPORT_PHYSICAL_ADDR: u8 = 0x84;
+
+pub const CEC_MSG_SET_STREAM_PATH: u8 = 0x86;
 
 pub const CEC_MSG_DEVICE_VENDOR_ID: u8 = 0x87;
 
@@ -87,6 +93,8 @@ pub const CEC_MSG_GIVE_DEVICE_VENDOR_ID: u8 = 0x8C;
 pub const CEC_MSG_GIVE_DEVICE_POWER_STATUS: u8 = 0x8F;
 
 pub const CEC_MSG_REPORT_POWER_STATUS: u8 = 0x90;
+
+pub const CEC_MSG_INACTIVE_SOURCE: u8 = 0x9D;
 
 pub const CEC_MSG_CEC_VERSION: u8 = 0x9E;
 

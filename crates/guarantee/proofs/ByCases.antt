@@ -16,7 +16,7 @@ use Rattle.entry.specs.declared.Entry.{Entry}
 use Rattle.guarantee.proofs.BusResultEnds.{busResult-ends}
 use Rattle.guarantee.proofs.Cases.{Cases, Quiet, calm, enqueued, stepFrom, same-came, closed-came, received-came}
 use Rattle.guarantee.proofs.Invariant.{Inv, open-below}
-use Rattle.guarantee.proofs.MessageEnds.{message-ends}
+use Rattle.guarantee.proofs.MessageEnds.{message-ends, ends-then}
 use Rattle.guarantee.proofs.ModesKept.{mode-held, same-held}
 use Rattle.guarantee.proofs.TimeEnds.{time-ends}
 use Rattle.guarantee.proofs.UnconfigureEnds.{unconfigure-ends}
@@ -30,16 +30,16 @@ use Rattle.lists.specs.Tests.{split, both, clash}
 use Rattle.lists.specs.Vector.{put}
 use Rattle.message.specs.Message.{message}
 use Rattle.rules.proofs.Accepted.{Roomy, all-passed}
+use Rattle.rules.proofs.Aside.{active-aside}
 use Rattle.rules.proofs.Checks.{passed}
 use Rattle.rules.proofs.SameModes.{SameModes, modes-refl, same-many, same-open}
 use Rattle.rules.specs.BusResult.{doBusResult, isFinal, keptCounts, concluded}
 use Rattle.rules.specs.BusStart.{doBusStart}
 use Rattle.rules.specs.Call.{Call, Request, Answer, Outcome, finish, unless, refused, done, accepted, received, started, listed, address}
-use Rattle.rules.specs.Call.{callOpen, callClose, callMode, callTransmit, callReceive, callBusStart, callBusResult, callMessage, callTime, callConfigure, callUnconfigure, callListing, callLookup}
+use Rattle.rules.specs.Call.{callOpen, callClose, callMode, callTransmit, callReceive, callBusStart, callBusResult, callMessage, callTime, callConfigure, callUnconfigure, callListing, callLookup, callActiveAddress}
 use Rattle.rules.specs.Close.{doClose}
 use Rattle.rules.specs.Configure.{doConfigure, keptSettings}
 use Rattle.rules.specs.Handles.{handleAt, isOpen}
-use Rattle.rules.specs.Incoming.{doMessage}
 use Rattle.rules.specs.Listing.{doListing, filledRows}
 use Rattle.rules.specs.Lookup.{doLookup}
 use Rattle.rules.specs.Mode.{doMode, inMode, modeRefusal}
@@ -49,6 +49,7 @@ use Rattle.rules.specs.Receive.{doReceive}
 use Rattle.rules.specs.State.{State, closedHandle, withHandles, withInboxes, withQueue, withWire, withLast, withSettings}
 use Rattle.rules.specs.Step.{step}
 use Rattle.rules.specs.Time.{doTime}
+use Rattle.rules.specs.Tracker.{doMessage}
 use Rattle.rules.specs.Transmit.{doTransmit, isSelfPoll, polled, queued}
 use Rattle.rules.specs.Unconfigure.{doUnconfigure}
 use Rattle.transmission.specs.Transmission.{headOf}
@@ -168,9 +169,12 @@ module _ (s : State) (r : Inv s) (P : Call → Outcome → Type 0) (k : Cases s 
       let a = passed (not (ltb 0 (length (s .wire)) && isFinal status)) EINVAL 0 (omega arith) z in
       let b = both (ltb 0 (length (s .wire))) (isFinal status) (not-false (ltb 0 (length (s .wire)) && isFinal status) (a .0)) in
       result-case status counts (s .wire) refl (r .wired) (b .0) (b .1))
-  by-cases (callMessage n bytes) = checked (callMessage n bytes) _ _ refl (λ z. k .whenEnded (callMessage n bytes) _ (message-ends s r (message n bytes) n bytes _ _))
+  by-cases (callMessage n bytes) = checked (callMessage n bytes) _ _ refl (λ z.
+      let c = callMessage n bytes in
+      k .whenEnded c _ (ends-then s _ _ c (message-ends s r (message n bytes) n bytes _ _) (active-aside _ _)))
   by-cases (callTime ms) = k .whenEnded (callTime ms) _ (time-ends ms s r)
   by-cases (callConfigure x) = checked (callConfigure x) _ _ refl (λ z. unmoved _ _ (withSettings s (keptSettings x)) (modes-refl s) (λ h. (refl, refl, refl, refl, refl)) (λ n q. clash q refl))
   by-cases callUnconfigure = k .whenEnded callUnconfigure _ (unconfigure-ends s r)
   by-cases (callListing rows) = checked (callListing rows) _ _ refl (λ z. unmoved _ _ s (modes-refl s) (λ h. (refl, refl, refl, refl, refl)) (λ n q. clash q refl))
   by-cases (callLookup a) = checked (callLookup a) _ _ refl (λ z. unmoved _ _ s (modes-refl s) (λ h. (refl, refl, refl, refl, refl)) (λ n q. clash q refl))
+  by-cases callActiveAddress = unmoved _ _ s (modes-refl s) (λ h. (refl, refl, refl, refl, refl)) (λ n q. clash q refl)

@@ -9,7 +9,7 @@ use Rattle.constants.specs.Kernel.{CEC-TX-STATUS-OK}
 use Rattle.entry.specs.declared.Entry.{Entry}
 use Rattle.inbox.specs.Inboxes.{inboxOf}
 use Rattle.lists.specs.Sums.{sum, count, any}
-use Rattle.rules.specs.Call.{Call, Answer, refused, done, opened, accepted, received, started, listed, address, callOpen, callClose, callMode, callTransmit, callReceive, callBusStart, callBusResult, callMessage, callTime, callConfigure, callUnconfigure, callListing, callLookup}
+use Rattle.rules.specs.Call.{Call, Answer, refused, done, opened, accepted, received, started, listed, address, callOpen, callClose, callMode, callTransmit, callReceive, callBusStart, callBusResult, callMessage, callTime, callConfigure, callUnconfigure, callListing, callLookup, callActiveAddress}
 use Rattle.rules.specs.Deliver.{handleNumbers}
 use Rattle.rules.specs.Handles.{hasBit}
 use Rattle.rules.specs.Step.{Step}
@@ -40,6 +40,7 @@ view (callConfigure x) = other
 view callUnconfigure = other
 view (callListing rows) = other
 view (callLookup a) = other
+view callActiveAddress = other
 
 -- whether it is a receive or a close of handle h, a bus result, and its milliseconds
 abbrev pub isReceive : ℕ → Call → Bool

@@ -26,7 +26,7 @@ use Rattle.parts.specs.declared.Parts.{Parts}
 use Rattle.rules.specs.Call.{Answer, finish}
 use Rattle.rules.specs.Deliver.{copies, deliver}
 use Rattle.rules.specs.Handles.{inRole, isHere}
-use Rattle.rules.specs.Incoming.{doMessage, heard, incomingRefusal, monitors}
+use Rattle.rules.specs.Incoming.{doSteps, heard, incomingRefusal, monitors}
 use Rattle.rules.specs.State.{State, withInboxes, withWaits}
 use Rattle.wait.specs.declared.Wait.{Wait}
 
@@ -45,8 +45,8 @@ pub message-outcome : (errno length : ℕ) (bytes : List ℕ) (m : Message) (her
     → Change p2 (doNote x m (stateOf p2)) (x .notes ≡ false) p3
     → Change p3 (doSend x (stateOf p3)) (x .sends ≡ false) p4
     → Change p4 (doCopies x m (stateOf p4)) (x .followers ≡ NOBODY) p5
-    → (doneOf (record { parts = p5; errno = errno }) ≡ doMessage (stateOf p0) length bytes) × (errno ≢ 0 → p5 ≡ p0)
-unfolding doMessage
+    → (doneOf (record { parts = p5; errno = errno }) ≡ doSteps (stateOf p0) length bytes) × (errno ≢ 0 → p5 ≡ p0)
+unfolding doSteps
 message-outcome errno length bytes m here kind x p0 p1 p2 p3 p4 p5 refusal made at monitored todo c1 c2 c3 c4 c5 =
     let s = stateOf p0 in
     let u = stateOf p1 in

@@ -1,14 +1,14 @@
 -- Tests and changes of a message from the wire, as the code makes them (document 01, "A message from the wire").
 -- Assumes nothing.
-use Prim.Native.Nat.{ℕ, _+_, _*_}
+use Prim.Native.Nat.{ℕ}
 use mathlib.Core.Bool.{Bool, cond, not, _&&_}
 use mathlib.Core.List.{List}
 use lib.Dec.{eqb}
-use lib.ListN.{getD, set}
+use lib.ListN.{set}
 use Rattle.copies.specs.Kinds.{getsCopies, EXCLUSIVE-FOLLOWER, FOLLOWERS, MONITORS, MONITORS-OF-ALL, NOBODY}
 use Rattle.handle.specs.declared.Handle.{Handle}
 use Rattle.lists.specs.Sums.{any}
-use Rattle.message.specs.Message.{destination, initiator}
+use Rattle.message.specs.Message.{destination, initiator, addressAt}
 use Rattle.message.specs.declared.Message.{Message}
 use Rattle.rules.specs.Handles.{inRole, isConfigured, isHere}
 use Rattle.rules.specs.State.{State}
@@ -31,4 +31,4 @@ goesOn s m = isConfigured s && not (eqb (m .length) 1) && isHere s (destination 
 
 -- the noted addresses after `rules: notes` with a message that is noted
 abbrev pub notedAt : List ℕ → Message → List ℕ
-notedAt noted m = set noted (initiator (m .bytes)) (getD (m .bytes) 2 0 * 256 + getD (m .bytes) 3 0)
+notedAt noted m = set noted (initiator (m .bytes)) (addressAt 2 (m .bytes))

@@ -3,7 +3,7 @@ ghost use mathlib.Core.Logic.{_≢_};
 ghost use mathlib.Core.Path.{_≡_};
 ghost use Rattle.parts.specs.Parts.{stateOf, doneOf};
 ghost use Rattle.rules.specs.Handles.{isHere};
-ghost use Rattle.rules.specs.Incoming.{incomingRefusal, doMessage};
+ghost use Rattle.rules.specs.Incoming.{incomingRefusal, doSteps};
 ghost use Rattle.incoming.specs.Steps.{monitorKind, followerKind, goesOn};
 ghost use Rattle.incoming.specs.Work.{toDoOf};
 
@@ -101,7 +101,7 @@ fn later_steps(parts: Parts, further: bool, message: Message) -> ToDo
 }
 
 pub fn message(mut parts: Parts, length: u8, bytes: [u8; 16]) -> Done
-    ensures { λ r. ⌜ doneOf r ≡ doMessage (stateOf parts) length bytes ⌝ }
+    ensures { λ r. ⌜ doneOf r ≡ doSteps (stateOf parts) length bytes ⌝ }
     ensures { λ r. ⌜ (r .errno ≢ 0 → r .parts ≡ parts) ⌝ }
 {
     let errno = message_errno(length);

@@ -1,5 +1,4 @@
 // Parts of the steps of a message from the wire.
-ghost use Prim.Native.Nat.{_+_, _*_};
 ghost use mathlib.Core.Bool.{cond};
 ghost use mathlib.Core.Path.{_≡_};
 ghost use Rattle.constants.specs.Kernel.{CEC-OP-ABORT-UNRECOGNIZED-OP};
@@ -25,21 +24,13 @@ pub fn reply_entry(sequence: u32, message: Message) -> Entry
     }
 }
 
-// Two bytes as a number, the high one first.
-fn joined(high: u8, low: u8) -> u16
-    ensures { λ r. ⌜ r ≡ high * 256 + low ⌝ }
-{
-    high as u16 * 256 + low as u16
-}
-
 // The noted addresses with the one that an initiator reports.
 pub fn noted(mut noted: [u16; 15], message: Message) -> [u16; 15]
     ensures { λ r. ⌜ r ≡ notedAt noted message ⌝ }
 {
     let from = message.initiator() as usize;
     if from < 15 {
-        let bytes = message.bytes();
-        noted[from] = joined(bytes[2], bytes[3]);
+        noted[from] = message.first_address();
     }
     noted
 }

@@ -1,6 +1,6 @@
 -- A CEC message: its bytes, its addresses and its opcode (document 01, "The adapter's parts").
 -- Assumes nothing.
-use Prim.Native.Nat.{ℕ, _-_, _/_, _%_, min}
+use Prim.Native.Nat.{ℕ, suc, _+_, _-_, _*_, _/_, _%_, min}
 use mathlib.Core.Bool.{Bool}
 use mathlib.Core.List.{List, _++_}
 use lib.Dec.{eqb}
@@ -31,6 +31,10 @@ destination bs = getD bs 0 0 % 16
 
 abbrev pub opcode : List ℕ → ℕ
 opcode bs = getD bs 1 0
+
+-- the physical address at a place: "Numbers go high byte first"
+abbrev pub addressAt : ℕ → List ℕ → ℕ
+addressAt place bs = getD bs place 0 * 256 + getD bs (suc place) 0
 
 -- Feature Abort, of an opcode
 abbrev pub isFeatureAbort : ℕ → Bool

@@ -1,8 +1,8 @@
 // A CEC message by value, and the reply test on messages and on byte slices.
 ghost use mathlib.Core.Path.{_≡_};
-ghost use Prim.Native.Nat.{_≤_, _/_};
+ghost use Prim.Native.Nat.{_≤_, _+_, _*_, _/_};
 ghost use lib.ListN.{getD};
-ghost use Rattle.message.specs.Message.{message, contents, sentLength, initiator, destination, opcode};
+ghost use Rattle.message.specs.Message.{message, contents, sentLength, initiator, destination, opcode, addressAt};
 
 pub mod reply;
 
@@ -18,6 +18,13 @@ fn high_digit(byte: u8) -> u8
     ensures { λ r. ⌜ r ≤ 15 ⌝ }
 {
     byte / 16
+}
+
+// Two bytes as a number, the high one first.
+fn joined(high: u8, low: u8) -> u16
+    ensures { λ r. ⌜ r ≡ high * 256 + low ⌝ }
+{
+    high as u16 * 256 + low as u16
 }
 
 impl Message {
@@ -68,6 +75,19 @@ impl Message {
         ensures { λ r. ⌜ r ≡ opcode (self .bytes) ⌝ }
     {
         self.bytes[1]
+    }
+
+    // The physical address after the opcode, and the one after that.
+    pub fn first_address(self) -> u16
+        ensures { λ r. ⌜ r ≡ addressAt 2 (self .bytes) ⌝ }
+    {
+        joined(self.bytes[2], self.bytes[3])
+    }
+
+    pub fn second_address(self) -> u16
+        ensures { λ r. ⌜ r ≡ addressAt 4 (self .bytes) ⌝ }
+    {
+        joined(self.bytes[4], self.bytes[5])
     }
 
     fn sent_length(self) -> usize

@@ -37,6 +37,7 @@ withArrays p es cs = record {
   last = p .last;
   settings = p .settings;
   noted = p .noted;
+  active = p .active;
 }
 
 -- q is p with an entry delivered

@@ -29,6 +29,7 @@ stateOf p = record {
   last = p .last;
   settings = p .settings;
   noted = p .noted;
+  active = p .active;
 }
 
 -- an answer that gives nothing more: the errno, or success

@@ -33,6 +33,7 @@ pub struct Parts {
     pub last: u32,
     pub settings: Settings,
     pub noted: [u16; 15],
+    pub active: u16,
 }
 
 // The parts after a call that gives nothing more, and its errno, 0 for success.
@@ -92,6 +93,7 @@ impl Parts {
             last: 0,
             settings: no_settings(),
             noted: none_noted(),
+            active: CEC_PHYS_ADDR_INVALID,
         }
     }
 

@@ -27,7 +27,7 @@ use Rattle.rules.specs.Derived.{roomTaken}
 use Rattle.rules.specs.Handles.{handleAt, isOpen, inRole}
 use Rattle.rules.specs.Incoming.{followed, refusedMessage, isCopied, isUnhandled}
 use Rattle.rules.specs.Owed.{pending, roomOwed, owedRoom}
-use Rattle.rules.specs.State.{State, withHandles, withQueue, withNoted}
+use Rattle.rules.specs.State.{State, withHandles, withQueue, withNoted, withActive}
 use Rattle.transmission.specs.Transmission.{noOwner, ownerless, roomFor}
 use Rattle.transmission.specs.declared.Transmission.{Transmission}
 use Rattle.waits.specs.Waits.{Taken}
@@ -48,10 +48,11 @@ pub record Aside (s t : State) : Type 0 where
   pub mail : (h : ℕ) → Mail h s t []
   pub room : (h : ℕ) → h < 8 → roomTaken s h ≤ 16 → roomTaken t h ≤ 16
   pub none : (h : ℕ) → isOpen s h ≡ false → inboxOf (t .inboxes) h ≡ inboxOf (s .inboxes) h
+  pub settings : t .settings ≡ s .settings
 
--- nothing but lost counts and noted addresses; nothing at all, one after the other, one or nothing, and several
-still-aside : (s : State) (hs : List Handle) (x : List ℕ) → SameModes s (withHandles s hs) → Aside s (withNoted (withHandles s hs) x)
-still-aside s hs x m = record {
+-- nothing but lost counts, noted addresses and the active one; nothing at all, one after the other, one or nothing, and several
+still-aside : (s : State) (hs : List Handle) (x : List ℕ) (a : ℕ) → SameModes s (withHandles s hs) → Aside s (withActive (withNoted (withHandles s hs) x) a)
+still-aside s hs x a m = record {
   modes = m;
   inboxes = refl;
   wire = refl;
@@ -62,10 +63,11 @@ still-aside s hs x m = record {
   mail = λ h. mail-same h s _ refl;
   room = λ h l r. r;
   none = λ h e. refl;
+  settings = refl;
 }
 
 pub aside-refl : (s : State) → Aside s s
-aside-refl s = still-aside s (s .handles) (s .noted) (modes-refl s)
+aside-refl s = still-aside s (s .handles) (s .noted) (s .active) (modes-refl s)
 
 pub aside-trans : (s t u : State) → Aside s t → Aside t u → Aside s u
 aside-trans s t u a b = record {
@@ -79,6 +81,7 @@ aside-trans s t u a b = record {
   mail = λ h. mail-trans h s t u [] [] (a .mail h) (b .mail h);
   room = λ h l r. b .room h l (a .room h l r);
   none = λ h e. b .none h (same-open s t (a .modes) h ∙ e) ∙ a .none h e;
+  settings = b .settings ∙ a .settings;
 }
 
 pub aside-if : (b : Bool) (s t : State) → Aside s t → Aside s (cond b t s)
@@ -113,7 +116,7 @@ aside-owed s t a h l = rw (a .waits) (omega (arith, aside-sum (roomFor h) (room-
 
 -- a copy: dropped and counted as lost, or delivered
 lost-aside : (s : State) (g : ℕ) → Aside s (withHandles s (set (s .handles) g (loses (handleAt s g))))
-lost-aside s g = still-aside s (set (s .handles) g (loses (handleAt s g))) (s .noted) (modes-lost s g)
+lost-aside s g = still-aside s (set (s .handles) g (loses (handleAt s g))) (s .noted) (s .active) (modes-lost s g)
 
 -- a copy is delivered only where entries plus owed room is not 16
 delivered-room : (s : State) (g : ℕ) (e : Entry) (h : ℕ) → eqb (roomTaken s g) 16 ≡ false → roomTaken s h ≤ 16 → roomTaken (deliver s g e) h ≤ 16
@@ -140,6 +143,7 @@ deliver-aside e n s g o q = record {
   none = λ h c. split (eqb g h)
       (λ p. clash o (rw (eqb-true g h p) c))
       (λ p. delivered-inbox (s .inboxes) g e h ∙ rw p (append-nil (inboxOf (s .inboxes) h)));
+  settings = refl;
 }
 
 copyTo-aside : (e : Entry) → e .sequence ≡ 0 → (s : State) (g : ℕ) → isOpen s g ≡ true → Aside s (copyTo e s g)
@@ -173,6 +177,7 @@ sent-aside s m k = record {
       let f = roomFor h in
       omega (arith, r, sum-append f (s .wire) (s .queue ++ (ownerless m ∷ [])), sum-append f (s .wire) (s .queue), sum-append f (s .queue) (ownerless m ∷ []), room-owned h l m);
   none = λ h e. refl;
+  settings = refl;
 }
 
 -- it is queued, or dropped if the queue is full or TRANSMIT is absent
@@ -186,7 +191,7 @@ sends-aside s bytes = aside-if (s .capabilities .transmit) s (withQueue s (put 1
 -- the steps of a message from the wire that end no wait
 pub notes-aside : (s : State) (m : Message) → Aside s (notes s m)
 unfolding notes
-notes-aside s m = aside-if (isNoted m) s _ (still-aside s (s .handles) _ (modes-refl s))
+notes-aside s m = aside-if (isNoted m) s _ (still-aside s (s .handles) _ (s .active) (modes-refl s))
 
 pub answers-aside : (s : State) (b : Bool) (bytes : List ℕ) → Aside s (answers s b bytes)
 unfolding answers
@@ -197,3 +202,7 @@ followed-aside s b t m = aside-if (isCopied b t) s _ (copies-aside _ (messageCop
 
 pub refusedMessage-aside : (s : State) (b : Bool) (t : Taken) (m : Message) → Aside s (refusedMessage s b t m)
 refusedMessage-aside s b t m = aside-if (isUnhandled s b t m) s _ (sends-aside s _)
+
+-- and the tracker (document 02, W-205)
+pub active-aside : (s : State) (a : ℕ) → Aside s (withActive s a)
+active-aside s a = still-aside s (s .handles) (s .noted) a (modes-refl s)

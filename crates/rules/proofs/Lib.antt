@@ -4,6 +4,7 @@ pub mod Checks
 pub mod Refused
 pub mod Excluded
 pub mod Features
+pub mod Tracker
 pub mod Entries
 pub mod Accepted
 pub mod CoreSends

@@ -11,10 +11,9 @@ use Rattle.rules.proofs.Checks.{unless-same}
 use Rattle.rules.specs.BusResult.{doBusResult}
 use Rattle.rules.specs.BusStart.{doBusStart}
 use Rattle.rules.specs.Call.{Call, unless, refused, listed, callOpen, callClose}
-use Rattle.rules.specs.Call.{callMode, callTransmit, callReceive, callBusStart, callBusResult, callMessage, callTime, callConfigure, callUnconfigure, callListing, callLookup}
+use Rattle.rules.specs.Call.{callMode, callTransmit, callReceive, callBusStart, callBusResult, callMessage, callTime, callConfigure, callUnconfigure, callListing, callLookup, callActiveAddress}
 use Rattle.rules.specs.Close.{doClose}
 use Rattle.rules.specs.Configure.{doConfigure}
-use Rattle.rules.specs.Incoming.{doMessage}
 use Rattle.rules.specs.Listing.{doListing, listingRefusal, filledRows, rowsAfter}
 use Rattle.rules.specs.Lookup.{doLookup}
 use Rattle.rules.specs.Mode.{doMode}
@@ -23,6 +22,7 @@ use Rattle.rules.specs.Receive.{doReceive}
 use Rattle.rules.specs.State.{State}
 use Rattle.rules.specs.Step.{step}
 use Rattle.rules.specs.Time.{doTime}
+use Rattle.rules.specs.Tracker.{doMessage}
 use Rattle.rules.specs.Transmit.{doTransmit, isSelfPoll}
 use Rattle.rules.specs.Unconfigure.{doUnconfigure}
 
@@ -45,6 +45,7 @@ refused-same s (callConfigure x) e q = unless-same s _ _ e (λ k r. differ cc) q
 refused-same s callUnconfigure e q = differ cc
 refused-same s (callListing rows) e q = unless-same s _ _ e (λ k r. differ cc) q
 refused-same s (callLookup a) e q = unless-same s _ _ e (λ k r. differ cc) q
+refused-same s callActiveAddress e q = differ cc
 
 -- a refused listing leaves the lent rows
 pub refused-rows : (s : State) (rows : List Row) (e : ℕ) → doListing s rows .answer ≡ refused e → rowsAfter s rows ≡ rows

@@ -1,4 +1,4 @@
--- The thirteen calls with all their arguments, and what each may answer (document 01, "Built", and "Numbers given back").
+-- The fourteen calls with all their arguments, and what each may answer (document 01, "Built", and "Numbers given back"; the last is document 02's, W-205).
 -- Assumes nothing.
 use Prim.Native.Nat.{ℕ}
 use mathlib.Core.Bool.{Bool, cond}
@@ -33,8 +33,9 @@ pub data Call : Type 0 where
   callUnconfigure : Call
   callListing : List Row → Call
   callLookup : ℕ → Call
+  callActiveAddress : Call
 
--- refused: an errno. done: nothing more. opened: the handle. accepted: sequence number and tx_status. received: the entry. started: what goes out. listed: the lent rows afterwards. address: the noted address
+-- refused: an errno. done: nothing more. opened: the handle. accepted: sequence number and tx_status. received: the entry. started: what goes out. listed: the lent rows afterwards. address: the noted or the active address
 pub data Answer : Type 0 where
   refused : ℕ → Answer
   done : Answer

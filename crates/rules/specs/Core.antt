@@ -7,7 +7,7 @@ use lib.Dec.{eqb, leb}
 use lib.ListN.{length, getD, set, take}
 use Rattle.constants.specs.Kernel.{CEC-LOG-ADDR-BROADCAST, CEC-LOG-ADDR-UNREGISTERED, CEC-MSG-FEATURE-ABORT, CEC-MSG-GIVE-OSD-NAME, CEC-MSG-SET-OSD-NAME, CEC-MSG-GIVE-PHYSICAL-ADDR, CEC-MSG-REPORT-PHYSICAL-ADDR, CEC-MSG-DEVICE-VENDOR-ID, CEC-MSG-GIVE-DEVICE-VENDOR-ID, CEC-MSG-CEC-VERSION, CEC-MSG-GET-CEC-VERSION, CEC-MSG-ABORT, CEC-OP-ABORT-REFUSED}
 use Rattle.lists.specs.Vector.{put}
-use Rattle.message.specs.Message.{message, initiator, destination, opcode}
+use Rattle.message.specs.Message.{message, initiator, destination, opcode, addressAt}
 use Rattle.message.specs.declared.Message.{Message}
 use Rattle.rules.specs.Derived.{Derived, counted}
 use Rattle.rules.specs.State.{State, withQueue, withNoted}
@@ -87,4 +87,4 @@ abbrev pub isNoted : Message → Bool
 isNoted m = eqb (opcode (m .bytes)) CEC-MSG-REPORT-PHYSICAL-ADDR && leb 5 (m .length) && isRegistered m
 
 unfoldable pub notes : State → Message → State
-notes s m = cond (isNoted m) (withNoted s (set (s .noted) (initiator (m .bytes)) (getD (m .bytes) 2 0 * 256 + getD (m .bytes) 3 0))) s
+notes s m = cond (isNoted m) (withNoted s (set (s .noted) (initiator (m .bytes)) (addressAt 2 (m .bytes)))) s

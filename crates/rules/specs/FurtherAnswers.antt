@@ -1,12 +1,12 @@
--- More answers, worked out by hand from document 01, a table for each section, and from W-203: the known answers that are not starred, the checks of each call, and places that can be read in two ways.
+-- More answers, worked out by hand from document 01, a table for each section, and from W-203 and W-205: the known answers that are not starred, the checks of each call, and places that can be read in two ways.
 -- Assumes nothing.
 use Prim.Native.Nat.{ℕ, zero, suc, _-_}
 use mathlib.Core.Bool.{Bool, true, false}
-use mathlib.Core.List.{List, [], _∷_, _++_}
+use mathlib.Core.List.{List, [], _∷_, _++_, map}
 use lib.ListN.{length, replicate}
 use Rattle.constants.specs.Kernel.{EPERM, EBADF, EAGAIN, EBUSY, EINVAL, EMFILE, ENOTTY, ENONET}
 use Rattle.entry.specs.Entry.{noCounts}
-use Rattle.rules.specs.Call.{Call, callOpen, callClose, callMode, callTransmit, callReceive, callBusStart, callBusResult, callMessage, callTime, callConfigure, callUnconfigure, callListing, callLookup}
+use Rattle.rules.specs.Call.{Call, callOpen, callClose, callMode, callTransmit, callReceive, callBusStart, callBusResult, callMessage, callTime, callConfigure, callUnconfigure, callListing, callLookup, callActiveAddress}
 use Rattle.rules.specs.Cases.{Case, bench, benchSettings, request, incoming}
 use Rattle.rules.specs.State.{State, fresh, withLast}
 use Rattle.rules.specs.Step.{after}
@@ -374,4 +374,64 @@ featureAnswers =
     ∷ record { start = unconfigured; calls = profile 4 0 0 0 ∷ incoming (0x04 ∷ 0xA5 ∷ []) ∷ callBusStart ∷ []; gives = out (0x40 ∷ 0x00 ∷ 0xA5 ∷ 0x00 ∷ []) }
     ∷ record { start = bench true; calls = callMode 0 0x11 ∷ incoming (0x04 ∷ 0xA5 ∷ []) ∷ callReceive 0 ∷ []; gives = got 0 0x00 0x01 2 }
     ∷ record { start = version6 true; calls = callUnconfigure ∷ profile 5 0 0 0 ∷ incoming (0x04 ∷ 0xA5 ∷ []) ∷ callBusStart ∷ []; gives = out (0x40 ∷ 0x00 ∷ 0xA5 ∷ 0x00 ∷ []) }
+    ∷ []
+
+-- messages from the wire, and then the active address
+abbrev pub telling : List (List ℕ) → List Call
+telling ms = map incoming ms ++ (callActiveAddress ∷ [])
+
+-- the routing tracker (document 02, W-205)
+abbrev pub trackerAnswers : List Case
+trackerAnswers =
+    -- none at first; 82, 86, and the second address of 80
+    record { start = bench true; calls = telling []; gives = 0 ∷ 0xFFFF ∷ [] }
+    ∷ record { start = bench true; calls = telling ((0x0F ∷ 0x82 ∷ 0x10 ∷ 0x00 ∷ []) ∷ []); gives = 0 ∷ 0x1000 ∷ [] }
+    ∷ record { start = bench true; calls = telling ((0x0F ∷ 0x86 ∷ 0x32 ∷ 0x10 ∷ []) ∷ []); gives = 0 ∷ 0x3210 ∷ [] }
+    ∷ record { start = bench true; calls = telling ((0x0F ∷ 0x80 ∷ 0x10 ∷ 0x00 ∷ 0x21 ∷ 0x00 ∷ []) ∷ []); gives = 0 ∷ 0x2100 ∷ [] }
+    -- the last one counts, 0.0.0.0 too
+    ∷ record { start = bench true; calls = telling ((0x0F ∷ 0x82 ∷ 0x10 ∷ 0x00 ∷ []) ∷ (0x0F ∷ 0x86 ∷ 0x20 ∷ 0x00 ∷ []) ∷ []); gives = 0 ∷ 0x2000 ∷ [] }
+    ∷ record { start = bench true; calls = telling ((0x0F ∷ 0x82 ∷ 0x10 ∷ 0x00 ∷ []) ∷ (0x0F ∷ 0x82 ∷ 0x00 ∷ 0x00 ∷ []) ∷ []); gives = 0 ∷ 0x0000 ∷ [] }
+    -- a byte too few or too many
+    ∷ record { start = bench true; calls = telling ((0x0F ∷ 0x82 ∷ 0x10 ∷ []) ∷ []); gives = 0 ∷ 0xFFFF ∷ [] }
+    ∷ record { start = bench true; calls = telling ((0x0F ∷ 0x82 ∷ 0x10 ∷ 0x00 ∷ 0x00 ∷ []) ∷ []); gives = 0 ∷ 0xFFFF ∷ [] }
+    ∷ record { start = bench true; calls = telling ((0x0F ∷ 0x86 ∷ 0x10 ∷ 0x00 ∷ 0x00 ∷ []) ∷ []); gives = 0 ∷ 0xFFFF ∷ [] }
+    ∷ record { start = bench true; calls = telling ((0x0F ∷ 0x80 ∷ 0x10 ∷ 0x00 ∷ []) ∷ []); gives = 0 ∷ 0xFFFF ∷ [] }
+    ∷ record { start = bench true; calls = telling ((0x0F ∷ 0x80 ∷ 0x10 ∷ 0x00 ∷ 0x21 ∷ []) ∷ []); gives = 0 ∷ 0xFFFF ∷ [] }
+    ∷ record { start = bench true; calls = telling ((0x0F ∷ 0x80 ∷ 0x10 ∷ 0x00 ∷ 0x21 ∷ 0x00 ∷ 0x00 ∷ []) ∷ []); gives = 0 ∷ 0xFFFF ∷ [] }
+    -- only to 15: not to an own address, not elsewhere
+    ∷ record { start = bench true; calls = telling ((0x04 ∷ 0x82 ∷ 0x10 ∷ 0x00 ∷ []) ∷ []); gives = 0 ∷ 0xFFFF ∷ [] }
+    ∷ record { start = bench true; calls = telling ((0x05 ∷ 0x86 ∷ 0x10 ∷ 0x00 ∷ []) ∷ []); gives = 0 ∷ 0xFFFF ∷ [] }
+    ∷ record { start = bench true; calls = telling ((0x04 ∷ 0x80 ∷ 0x10 ∷ 0x00 ∷ 0x21 ∷ 0x00 ∷ []) ∷ []); gives = 0 ∷ 0xFFFF ∷ [] }
+    -- an address that is ill formed; of 80 only the second counts
+    ∷ record { start = bench true; calls = telling ((0x0F ∷ 0x82 ∷ 0x10 ∷ 0x10 ∷ []) ∷ []); gives = 0 ∷ 0xFFFF ∷ [] }
+    ∷ record { start = bench true; calls = telling ((0x0F ∷ 0x82 ∷ 0x01 ∷ 0x00 ∷ []) ∷ []); gives = 0 ∷ 0xFFFF ∷ [] }
+    ∷ record { start = bench true; calls = telling ((0x0F ∷ 0x86 ∷ 0xFF ∷ 0xFF ∷ []) ∷ []); gives = 0 ∷ 0xFFFF ∷ [] }
+    ∷ record { start = bench true; calls = telling ((0x0F ∷ 0x82 ∷ 0xFF ∷ 0xFE ∷ []) ∷ []); gives = 0 ∷ 0xFFFE ∷ [] }
+    ∷ record { start = bench true; calls = telling ((0x0F ∷ 0x80 ∷ 0xFF ∷ 0xFF ∷ 0x11 ∷ 0x00 ∷ []) ∷ []); gives = 0 ∷ 0x1100 ∷ [] }
+    ∷ record { start = bench true; calls = telling ((0x0F ∷ 0x82 ∷ 0x10 ∷ 0x00 ∷ []) ∷ (0x0F ∷ 0x80 ∷ 0x10 ∷ 0x00 ∷ 0x10 ∷ 0x10 ∷ []) ∷ []); gives = 0 ∷ 0x1000 ∷ [] }
+    -- 9D with that same address clears it: to an own address, elsewhere, to 15
+    ∷ record { start = bench true; calls = telling ((0x0F ∷ 0x82 ∷ 0x10 ∷ 0x00 ∷ []) ∷ (0x04 ∷ 0x9D ∷ 0x10 ∷ 0x00 ∷ []) ∷ []); gives = 0 ∷ 0xFFFF ∷ [] }
+    ∷ record { start = bench true; calls = telling ((0x0F ∷ 0x82 ∷ 0x10 ∷ 0x00 ∷ []) ∷ (0x05 ∷ 0x9D ∷ 0x10 ∷ 0x00 ∷ []) ∷ []); gives = 0 ∷ 0xFFFF ∷ [] }
+    ∷ record { start = bench true; calls = telling ((0x0F ∷ 0x82 ∷ 0x10 ∷ 0x00 ∷ []) ∷ (0x0F ∷ 0x9D ∷ 0x10 ∷ 0x00 ∷ []) ∷ []); gives = 0 ∷ 0xFFFF ∷ [] }
+    -- with another, or of another length, it does not
+    ∷ record { start = bench true; calls = telling ((0x0F ∷ 0x82 ∷ 0x10 ∷ 0x00 ∷ []) ∷ (0x04 ∷ 0x9D ∷ 0x20 ∷ 0x00 ∷ []) ∷ []); gives = 0 ∷ 0x1000 ∷ [] }
+    ∷ record { start = bench true; calls = telling ((0x0F ∷ 0x82 ∷ 0x10 ∷ 0x00 ∷ []) ∷ (0x04 ∷ 0x9D ∷ 0x10 ∷ []) ∷ []); gives = 0 ∷ 0x1000 ∷ [] }
+    ∷ record { start = bench true; calls = telling ((0x0F ∷ 0x82 ∷ 0x10 ∷ 0x00 ∷ []) ∷ (0x04 ∷ 0x9D ∷ 0x10 ∷ 0x00 ∷ 0x00 ∷ []) ∷ []); gives = 0 ∷ 0x1000 ∷ [] }
+    -- other messages change nothing
+    ∷ record { start = bench true; calls = telling ((0x0F ∷ 0x82 ∷ 0x10 ∷ 0x00 ∷ []) ∷ (0x0F ∷ 0x84 ∷ 0x20 ∷ 0x00 ∷ 0x04 ∷ []) ∷ []); gives = 0 ∷ 0x1000 ∷ [] }
+    ∷ record { start = bench true; calls = telling ((0x0F ∷ 0x82 ∷ 0x10 ∷ 0x00 ∷ []) ∷ (0x0F ∷ 0x81 ∷ 0x20 ∷ 0x00 ∷ []) ∷ []); gives = 0 ∷ 0x1000 ∷ [] }
+    -- from 15 and from an own address
+    ∷ record { start = bench true; calls = telling ((0xFF ∷ 0x82 ∷ 0x10 ∷ 0x00 ∷ []) ∷ []); gives = 0 ∷ 0x1000 ∷ [] }
+    ∷ record { start = bench true; calls = telling ((0x4F ∷ 0x82 ∷ 0x20 ∷ 0x00 ∷ []) ∷ []); gives = 0 ∷ 0x2000 ∷ [] }
+    -- under a passthrough follower and under a monitor
+    ∷ record { start = bench true; calls = callMode 0 0x31 ∷ telling ((0x0F ∷ 0x82 ∷ 0x10 ∷ 0x00 ∷ []) ∷ []); gives = 0 ∷ 0x1000 ∷ [] }
+    ∷ record { start = bench true; calls = callMode 0 0xE0 ∷ telling ((0x0F ∷ 0x82 ∷ 0x10 ∷ 0x00 ∷ []) ∷ (0x05 ∷ 0x9D ∷ 0x10 ∷ 0x00 ∷ []) ∷ []); gives = 0 ∷ 0xFFFF ∷ [] }
+    -- unconfigured it hears nothing
+    ∷ record { start = unconfigured; calls = telling ((0x0F ∷ 0x82 ∷ 0x10 ∷ 0x00 ∷ []) ∷ []); gives = 0 ∷ 0xFFFF ∷ [] }
+    -- a message that is refused is not heard, nor is a transmit
+    ∷ record { start = bench true; calls = incoming (0x0F ∷ 0x82 ∷ 0x10 ∷ 0x00 ∷ []) ∷ telling ((0x0F ∷ 0x82 ∷ 0x20 ∷ 0x00 ∷ replicate 13 0x00) ∷ [] ∷ []); gives = 0 ∷ 0x1000 ∷ [] }
+    ∷ record { start = bench true; calls = callTransmit 0 (request (0x4F ∷ 0x82 ∷ 0x20 ∷ 0x00 ∷ []) 0x00) ∷ callBusStart ∷ ok ∷ telling []; gives = 0 ∷ 0xFFFF ∷ [] }
+    -- unconfigure clears it, and a later configure does not bring it back
+    ∷ record { start = bench true; calls = incoming (0x0F ∷ 0x82 ∷ 0x10 ∷ 0x00 ∷ []) ∷ callUnconfigure ∷ telling []; gives = 0 ∷ 0xFFFF ∷ [] }
+    ∷ record { start = bench true; calls = incoming (0x0F ∷ 0x82 ∷ 0x10 ∷ 0x00 ∷ []) ∷ callUnconfigure ∷ callConfigure benchSettings ∷ telling []; gives = 0 ∷ 0xFFFF ∷ [] }
     ∷ []

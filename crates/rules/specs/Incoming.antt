@@ -79,5 +79,5 @@ heardWith s answered bytes m =
 abbrev pub heard : State → Message → State
 heard s m = heardWith s (isAnswered s m) (answerFor (s .settings) m) m
 
-unfoldable pub doMessage : State → ℕ → List ℕ → Outcome
-doMessage s n bytes = unless (incomingRefusal n) s (finish Answer.done (heard s (message n bytes)))
+unfoldable pub doSteps : State → ℕ → List ℕ → Outcome
+doSteps s n bytes = unless (incomingRefusal n) s (finish Answer.done (heard s (message n bytes)))

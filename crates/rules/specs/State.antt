@@ -16,7 +16,7 @@ pub record Capabilities : Type 0 where
   pub transmit : Bool
   pub monitorAll : Bool
 
--- "8 handles", "A transmit queue of 18 messages", "a wire that holds at most one more", "An inbox of 16 entries per handle", "Waits", the settings, "one noted physical address for each of 0 to 14", and the last sequence number given
+-- "8 handles", "A transmit queue of 18 messages", "a wire that holds at most one more", "An inbox of 16 entries per handle", "Waits", the settings, "one noted physical address for each of 0 to 14", the last sequence number given, and the active address of the routing tracker (document 02, W-205)
 pub record State : Type 0 where
   pub capabilities : Capabilities
   pub handles : List Handle
@@ -27,6 +27,7 @@ pub record State : Type 0 where
   pub last : ℕ
   pub settings : Settings
   pub noted : List ℕ
+  pub active : ℕ
 
 -- a handle number that is not open
 abbrev pub closedHandle : Handle
@@ -63,29 +64,33 @@ fresh c = record {
   last = 0;
   settings = noSettings;
   noted = noneNoted;
+  active = CEC-PHYS-ADDR-INVALID;
 }
 
 -- the state with one part changed
 abbrev pub withHandles : State → List Handle → State
-withHandles s x = record { capabilities = s .capabilities; handles = x; inboxes = s .inboxes; queue = s .queue; wire = s .wire; waits = s .waits; last = s .last; settings = s .settings; noted = s .noted }
+withHandles s x = record { capabilities = s .capabilities; handles = x; inboxes = s .inboxes; queue = s .queue; wire = s .wire; waits = s .waits; last = s .last; settings = s .settings; noted = s .noted; active = s .active }
 
 abbrev pub withInboxes : State → List (List Entry) → State
-withInboxes s x = record { capabilities = s .capabilities; handles = s .handles; inboxes = x; queue = s .queue; wire = s .wire; waits = s .waits; last = s .last; settings = s .settings; noted = s .noted }
+withInboxes s x = record { capabilities = s .capabilities; handles = s .handles; inboxes = x; queue = s .queue; wire = s .wire; waits = s .waits; last = s .last; settings = s .settings; noted = s .noted; active = s .active }
 
 abbrev pub withQueue : State → List Transmission → State
-withQueue s x = record { capabilities = s .capabilities; handles = s .handles; inboxes = s .inboxes; queue = x; wire = s .wire; waits = s .waits; last = s .last; settings = s .settings; noted = s .noted }
+withQueue s x = record { capabilities = s .capabilities; handles = s .handles; inboxes = s .inboxes; queue = x; wire = s .wire; waits = s .waits; last = s .last; settings = s .settings; noted = s .noted; active = s .active }
 
 abbrev pub withWire : State → List Transmission → State
-withWire s x = record { capabilities = s .capabilities; handles = s .handles; inboxes = s .inboxes; queue = s .queue; wire = x; waits = s .waits; last = s .last; settings = s .settings; noted = s .noted }
+withWire s x = record { capabilities = s .capabilities; handles = s .handles; inboxes = s .inboxes; queue = s .queue; wire = x; waits = s .waits; last = s .last; settings = s .settings; noted = s .noted; active = s .active }
 
 abbrev pub withWaits : State → List Wait → State
-withWaits s x = record { capabilities = s .capabilities; handles = s .handles; inboxes = s .inboxes; queue = s .queue; wire = s .wire; waits = x; last = s .last; settings = s .settings; noted = s .noted }
+withWaits s x = record { capabilities = s .capabilities; handles = s .handles; inboxes = s .inboxes; queue = s .queue; wire = s .wire; waits = x; last = s .last; settings = s .settings; noted = s .noted; active = s .active }
 
 abbrev pub withLast : State → ℕ → State
-withLast s x = record { capabilities = s .capabilities; handles = s .handles; inboxes = s .inboxes; queue = s .queue; wire = s .wire; waits = s .waits; last = x; settings = s .settings; noted = s .noted }
+withLast s x = record { capabilities = s .capabilities; handles = s .handles; inboxes = s .inboxes; queue = s .queue; wire = s .wire; waits = s .waits; last = x; settings = s .settings; noted = s .noted; active = s .active }
 
 abbrev pub withSettings : State → Settings → State
-withSettings s x = record { capabilities = s .capabilities; handles = s .handles; inboxes = s .inboxes; queue = s .queue; wire = s .wire; waits = s .waits; last = s .last; settings = x; noted = s .noted }
+withSettings s x = record { capabilities = s .capabilities; handles = s .handles; inboxes = s .inboxes; queue = s .queue; wire = s .wire; waits = s .waits; last = s .last; settings = x; noted = s .noted; active = s .active }
 
 abbrev pub withNoted : State → List ℕ → State
-withNoted s x = record { capabilities = s .capabilities; handles = s .handles; inboxes = s .inboxes; queue = s .queue; wire = s .wire; waits = s .waits; last = s .last; settings = s .settings; noted = x }
+withNoted s x = record { capabilities = s .capabilities; handles = s .handles; inboxes = s .inboxes; queue = s .queue; wire = s .wire; waits = s .waits; last = s .last; settings = s .settings; noted = x; active = s .active }
+
+abbrev pub withActive : State → ℕ → State
+withActive s x = record { capabilities = s .capabilities; handles = s .handles; inboxes = s .inboxes; queue = s .queue; wire = s .wire; waits = s .waits; last = s .last; settings = s .settings; noted = s .noted; active = x }

@@ -3,10 +3,9 @@
 use mathlib.Core.List.{List, [], _∷_}
 use Rattle.rules.specs.BusResult.{doBusResult}
 use Rattle.rules.specs.BusStart.{doBusStart}
-use Rattle.rules.specs.Call.{Call, callOpen, callClose, callMode, callTransmit, callReceive, callBusStart, callBusResult, callMessage, callTime, callConfigure, callUnconfigure, callListing, callLookup, Answer, Outcome}
+use Rattle.rules.specs.Call.{Call, callOpen, callClose, callMode, callTransmit, callReceive, callBusStart, callBusResult, callMessage, callTime, callConfigure, callUnconfigure, callListing, callLookup, callActiveAddress, Answer, Outcome}
 use Rattle.rules.specs.Close.{doClose}
 use Rattle.rules.specs.Configure.{doConfigure}
-use Rattle.rules.specs.Incoming.{doMessage}
 use Rattle.rules.specs.Listing.{doListing}
 use Rattle.rules.specs.Lookup.{doLookup}
 use Rattle.rules.specs.Mode.{doMode}
@@ -14,6 +13,7 @@ use Rattle.rules.specs.Open.{doOpen}
 use Rattle.rules.specs.Receive.{doReceive}
 use Rattle.rules.specs.State.{State}
 use Rattle.rules.specs.Time.{doTime}
+use Rattle.rules.specs.Tracker.{doMessage, doActiveAddress}
 use Rattle.rules.specs.Transmit.{doTransmit}
 use Rattle.rules.specs.Unconfigure.{doUnconfigure}
 
@@ -31,6 +31,7 @@ step s (callConfigure x) = doConfigure s x
 step s callUnconfigure = doUnconfigure s
 step s (callListing rows) = doListing s rows
 step s (callLookup a) = doLookup s a
+step s callActiveAddress = doActiveAddress s
 
 -- a call, with the states before and after it
 pub record Step : Type 0 where

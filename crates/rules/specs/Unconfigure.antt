@@ -1,13 +1,13 @@
 -- Unconfigure (document 01, "Wire, time and configuration").
 -- Assumes nothing.
 use mathlib.Core.List.{[]}
-use Rattle.constants.specs.Kernel.{CEC-TX-STATUS-ABORTED}
+use Rattle.constants.specs.Kernel.{CEC-TX-STATUS-ABORTED, CEC-PHYS-ADDR-INVALID}
 use Rattle.entry.specs.Entry.{result, aborted, noCounts}
 use Rattle.entry.specs.declared.Entry.{Entry}
 use Rattle.rules.specs.Call.{Outcome, finish, Answer}
 use Rattle.rules.specs.Deliver.{deliver, each}
 use Rattle.rules.specs.Owed.{pending}
-use Rattle.rules.specs.State.{State, noSettings, noneNoted, withQueue, withWire, withWaits, withSettings, withNoted}
+use Rattle.rules.specs.State.{State, noSettings, noneNoted, withQueue, withWire, withWaits, withSettings, withNoted, withActive}
 use Rattle.transmission.specs.declared.Transmission.{Transmission}
 use Rattle.wait.specs.declared.Wait.{Wait}
 
@@ -25,9 +25,9 @@ abortEntry w = aborted (w .sequence) (w .sent)
 abbrev pub abortWait : State → Wait → State
 abortWait s w = deliver s (w .owner) (abortEntry w)
 
--- "address 0xFFFF, mask 0, noted addresses cleared", "The other settings become 0", and nothing is left to send or to wait for
+-- "address 0xFFFF, mask 0, noted addresses cleared", "The other settings become 0", "Unconfigure clears the tracker" (document 02, W-205), and nothing is left to send or to wait for
 abbrev pub unset : State → State
-unset s = withQueue (withWire (withWaits (withSettings (withNoted s noneNoted) noSettings) []) []) []
+unset s = withQueue (withWire (withWaits (withSettings (withNoted (withActive s CEC-PHYS-ADDR-INVALID) noneNoted) noSettings) []) []) []
 
 -- "Unconfigure always succeeds"
 unfoldable pub doUnconfigure : State → Outcome

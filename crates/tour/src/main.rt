@@ -1,4 +1,4 @@
-// The camera program and the chart program share one wire, later with a controller. Each line says which program got what, under which number.
+// The camera program and the chart program share one wire, later with a controller. Each line says which program got what, under which number, and where the picture is.
 use adapter::Adapter;
 use constants::CEC_LOG_ADDR_BROADCAST;
 use constants::CEC_LOG_ADDR_UNREGISTERED;
@@ -13,7 +13,10 @@ use constants::CEC_MSG_GIVE_DEVICE_POWER_STATUS;
 use constants::CEC_MSG_IMAGE_VIEW_ON;
 use constants::CEC_MSG_REPORT_PHYSICAL_ADDR;
 use constants::CEC_MSG_REPORT_POWER_STATUS;
+use constants::CEC_MSG_ROUTING_CHANGE;
+use constants::CEC_MSG_SET_STREAM_PATH;
 use constants::CEC_OP_CEC_VERSION_1_4;
+use constants::CEC_PHYS_ADDR_INVALID;
 use constants::CEC_TX_STATUS_MAX_RETRIES;
 use constants::CEC_TX_STATUS_NACK;
 use constants::CEC_TX_STATUS_OK;
@@ -375,6 +378,58 @@ fn reported(adapter: Adapter) -> Adapter {
     answer.adapter
 }
 
+fn say_address(text: &[u8], address: u16) {
+    say_number(text, (address / 4096) as u32);
+    say_number(b".", (address / 256 % 16) as u32);
+    say_number(b".", (address / 16 % 16) as u32);
+    say_number(b".", (address % 16) as u32);
+}
+
+fn say_picture(adapter: Adapter) {
+    let active = adapter.active_address();
+    if active == CEC_PHYS_ADDR_INVALID {
+        say(b"box: no picture\n");
+    } else {
+        say_address(b"box: the picture is at ", active);
+        say(b"\n");
+    }
+}
+
+fn say_way(first: u16, second: u16) {
+    let way = route::between(first, second);
+    say_address(b"way: from ", first);
+    say_address(b" to ", second);
+    say_address(b", common ancestor ", way.ancestor);
+    if way.on_path {
+        say_number(b", port ", way.port as u32);
+    } else {
+        say(b", off the path");
+    }
+    say(b"\n");
+}
+
+// The amplifier changes its input from 1.0.0.0, the box, to 2.1.0.0; the display asks for the box again.
+fn pictured(adapter: Adapter) -> Adapter {
+    say_picture(adapter);
+    let mut bytes = [0; 16];
+    bytes[0] = AMPLIFIER * 16 + CEC_LOG_ADDR_BROADCAST;
+    bytes[1] = CEC_MSG_ROUTING_CHANGE;
+    bytes[2] = 0x10;
+    bytes[4] = 0x21;
+    let changed = adapter.received(6, bytes);
+    say_message(AMPLIFIER, CEC_MSG_ROUTING_CHANGE);
+    say_picture(changed.adapter);
+    say_way(0x0000, 0x2100);
+    say_way(0x2000, 0x2100);
+    say_way(0x1000, 0x2100);
+    bytes[0] = CEC_LOG_ADDR_BROADCAST;
+    bytes[1] = CEC_MSG_SET_STREAM_PATH;
+    let asked = changed.adapter.received(4, bytes);
+    say_message(DISPLAY, CEC_MSG_SET_STREAM_PATH);
+    say_picture(asked.adapter);
+    asked.adapter
+}
+
 fn address_gone(adapter: Adapter) -> Adapter {
     let answer = adapter.unconfigure();
     say_number(b"box: unconfigure, errno ", answer.errno);
@@ -403,7 +458,9 @@ fn main() {
     now = no_replies(now);
     now = refused(now);
     now = reported(now);
+    now = pictured(now);
     now = watched(now);
     now = controlled(now);
-    unconfigured(now);
+    now = unconfigured(now);
+    say_picture(now);
 }

@@ -6,13 +6,14 @@ use mathlib.Core.Logic.{_≢_}
 use mathlib.Core.Path.{_≡_, refl, sym}
 use native.Mathlib.Omega.{arith}
 use lib.ListN.{length}
+use Rattle.constants.specs.Kernel.{CEC-PHYS-ADDR-INVALID}
 use Rattle.unconfigure.specs.Aborted.{transmitsAborted, waitsAborted}
 use Rattle.entry.specs.declared.Entry.{Entry}
 use Rattle.inbox.specs.Inboxes.{delivered}
 use Rattle.rules.proofs.Deliveries.{each-delivers}
 use Rattle.rules.specs.Deliver.{each}
 use Rattle.rules.specs.Owed.{pending}
-use Rattle.rules.specs.State.{State, noSettings, noneNoted, withInboxes, withQueue, withWire, withWaits, withSettings, withNoted}
+use Rattle.rules.specs.State.{State, noSettings, noneNoted, withInboxes, withQueue, withWire, withWaits, withSettings, withNoted, withActive}
 use Rattle.rules.specs.Unconfigure.{abortTransmit, abortWait, unset, abortedResult, abortEntry}
 use Rattle.settings.specs.declared.Settings.{Settings}
 use Rattle.transmission.specs.Transmission.{headOf}
@@ -39,7 +40,7 @@ pub unconfigured : (s u : State) (is : List (List Entry)) (queue wire : List Tra
     → settings ≡ noSettings
     → noted ≡ noneNoted
     → _≡_ {A = State}
-    (withQueue (withWire (withWaits (withSettings (withNoted u noted) settings) waits) wire) queue)
+    (withQueue (withWire (withWaits (withSettings (withNoted (withActive u CEC-PHYS-ADDR-INVALID) noted) settings) waits) wire) queue)
     (each abortWait (each abortTransmit (unset s) (pending s)) (s .waits))
 unconfigured s u is queue wire waits settings noted p a b c d e f =
     let sent = each-delivers (λ t. t .owner) abortedResult (unset s) (pending s) in

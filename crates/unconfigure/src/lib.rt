@@ -8,6 +8,7 @@ ghost use Rattle.rules.specs.Unconfigure.{abortedResult, abortEntry, doUnconfig
 ghost use Rattle.traffic.specs.Traffic.{pendingOf};
 ghost use Rattle.waits.specs.Waits.{waitsOf};
 ghost use Rattle.wire.specs.Wire.{wireOf};
+use constants::CEC_PHYS_ADDR_INVALID;
 use constants::CEC_TX_STATUS_ABORTED;
 use entry::Counts;
 use entry::Entry;
@@ -90,7 +91,7 @@ fn abort(inboxes: Inboxes, queue: Queue, wire: Wire, waits: Waits) -> Inboxes
     abort_waits(after_queue, waits)
 }
 
-// All that is on its way ends; address 0xFFFF, mask 0, noted addresses cleared, the other settings 0.
+// All that is on its way ends; address 0xFFFF, mask 0, noted addresses and the active one cleared, the other settings 0.
 pub fn unconfigure(parts: Parts) -> Done
     ensures { λ r. ⌜ doneOf r ≡ doUnconfigure (stateOf parts) ⌝ }
 {
@@ -102,6 +103,7 @@ pub fn unconfigure(parts: Parts) -> Done
     after.settings = no_settings();
     let noted = none_noted();
     after.noted = noted;
+    after.active = CEC_PHYS_ADDR_INVALID;
     Done {
         parts: after,
         errno: 0,

@@ -23,7 +23,7 @@ use Rattle.parts.specs.Parts.{doneOf, stateOf}
 use Rattle.parts.specs.declared.Parts.{Parts}
 use Rattle.rules.specs.Deliver.{copies}
 use Rattle.rules.specs.Handles.{inRole, isHere}
-use Rattle.rules.specs.Incoming.{doMessage, replyEntry}
+use Rattle.rules.specs.Incoming.{doSteps, replyEntry}
 use Rattle.incoming.proofs.message.Statement.{statement}
 use Rattle.incoming.proofs.message.Tie as tie
 
@@ -127,7 +127,7 @@ module _ (c : tie.Joined5) where
 
 before-copies : (c : tie.Joined5) (q : Parts)
     → Change (c .if5 .parts) (doCopies (toDo c) (message c) (stateOf (c .if5 .parts))) (toDo c .followers ≡ NOBODY) q
-    → (doneOf (record { parts = q; errno = errno c }) ≡ doMessage (stateOf (given c)) (size c) (bytes c)) × (errno c ≢ 0 → q ≡ given c)
+    → (doneOf (record { parts = q; errno = errno c }) ≡ doSteps (stateOf (given c)) (size c) (bytes c)) × (errno c ≢ 0 → q ≡ given c)
 before-copies c q last =
     let j4 = c .before in
     let j2 = j4 .before in

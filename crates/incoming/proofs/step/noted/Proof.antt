@@ -11,17 +11,8 @@ initiator-requires c κs = search needs
 cast-from : tie.Need-cast-from
 cast-from c = search needs
 
-bytes-requires : tie.Need-bytes-requires
-bytes-requires c κs = search needs
-
-array-read-joined : tie.Need-array-read-joined
-array-read-joined c = search needs
-
-array-read-joined-2 : tie.Need-array-read-joined-2
-array-read-joined-2 c = search needs
-
-joined-requires : tie.Need-joined-requires
-joined-requires c κs = search needs
+first-address-requires : tie.Need-first-address-requires
+first-address-requires c κs = search needs
 
 mul-noted : tie.Need-mul-noted
 mul-noted c = search needs
@@ -30,7 +21,7 @@ array-write-noted : tie.Need-array-write-noted
 array-write-noted c = search needs
 
 returns : tie.Need-returns
-returns c = rw (c .joined .ensures, c .before .before .before .initiator .ensures .0, c .before .bytes .ensures)
+returns c = rw (c .first-address .ensures, c .before .before .initiator .ensures .0)
 
 returns-2 : tie.Need-returns-2
 returns-2 c = let a = c .before .before .args in rw (← c .before .initiator .ensures .0, set-out (a .t1) (c .before .initiator .result) _ (omega (arith, c .if1 .left)))
@@ -41,10 +32,7 @@ noted-spec =
     (tie.spec
     initiator-requires
     cast-from
-    bytes-requires
-    array-read-joined
-    array-read-joined-2
-    joined-requires
+    first-address-requires
     mul-noted
     array-write-noted
     returns

@@ -1,0 +1,5 @@
+pub mod Digits
+pub mod Path
+pub mod Ports
+pub mod Tree
+pub mod WellFormed

@@ -1,0 +1,75 @@
+-- The routing tracker: which physical address has the picture (document 02, W-205).
+-- Assumes nothing.
+use Prim.Native.Nat.{ℕ}
+use mathlib.Core.Bool.{Bool, true, false, cond, _&&_, _||_}
+use mathlib.Core.List.{List}
+use mathlib.Core.Logic.{_⊎_}
+use mathlib.Core.Path.{_≡_}
+use lib.Dec.{eqb}
+use Rattle.constants.specs.Kernel.{CEC-MSG-ROUTING-CHANGE, CEC-MSG-ACTIVE-SOURCE, CEC-MSG-SET-STREAM-PATH, CEC-MSG-INACTIVE-SOURCE, CEC-LOG-ADDR-BROADCAST, CEC-PHYS-ADDR-INVALID}
+use Rattle.message.specs.Message.{message, destination, opcode, addressAt}
+use Rattle.message.specs.declared.Message.{Message}
+use Rattle.route.specs.Address.{isWellFormed}
+use Rattle.rules.specs.Call.{Outcome, finish, unless, Answer, Call, callOpen, callClose, callMode, callTransmit, callReceive, callBusStart, callBusResult, callMessage, callTime, callConfigure, callUnconfigure, callListing, callLookup, callActiveAddress}
+use Rattle.rules.specs.Handles.{isConfigured}
+use Rattle.rules.specs.Incoming.{incomingRefusal, heard}
+use Rattle.rules.specs.State.{State, withActive}
+
+-- a message of this opcode and length
+abbrev pub isOf : ℕ → ℕ → Message → Bool
+isOf code n m = eqb (opcode (m .bytes)) code && eqb (m .length) n
+
+-- "messages 82 (length 4), 80 (length 6, the second address) and 86 (length 4)": 80 tells the address that was left, then the one that is active now
+abbrev pub tells : Message → Bool
+tells m = isOf CEC-MSG-ACTIVE-SOURCE 4 m || isOf CEC-MSG-ROUTING-CHANGE 6 m || isOf CEC-MSG-SET-STREAM-PATH 4 m
+
+abbrev pub toldAddress : Message → ℕ
+toldAddress m = cond (eqb (opcode (m .bytes)) CEC-MSG-ROUTING-CHANGE) (addressAt 4 (m .bytes)) (addressAt 2 (m .bytes))
+
+-- "sent to 15 with a well-formed address, set it"
+abbrev pub setsActive : Message → Bool
+setsActive m = tells m && eqb (destination (m .bytes)) CEC-LOG-ADDR-BROADCAST && isWellFormed (toldAddress m)
+
+-- "9D (length 4), to anyone, with that same address clears it"
+abbrev pub clearsActive : ℕ → Message → Bool
+clearsActive active m = isOf CEC-MSG-INACTIVE-SOURCE 4 m && eqb (addressAt 2 (m .bytes)) active
+
+-- "others change nothing"
+unfoldable pub tracked : ℕ → Message → ℕ
+tracked active m = cond (setsActive m) (toldAddress m) (cond (clearsActive active m) CEC-PHYS-ADDR-INVALID active)
+
+-- "hears every accepted incoming message while configured"
+abbrev pub activeAfter : State → Message → ℕ
+activeAfter s m = cond (isConfigured s) (tracked (s .active) m) (s .active)
+
+-- a message from the wire: document 01's six steps, and the tracker
+unfoldable pub doMessage : State → ℕ → List ℕ → Outcome
+doMessage s n bytes =
+    let m = message n bytes in
+    unless (incomingRefusal n) s (finish Answer.done (withActive (heard s m) (activeAfter s m)))
+
+-- "One call gives the active address, 0xFFFF for none."
+abbrev pub doActiveAddress : State → Outcome
+doActiveAddress s = finish (Answer.address (s .active)) s
+
+-- the active address after any call: an accepted message is heard, unconfigure clears it, and no other call moves it
+abbrev pub activeThen : State → Call → ℕ
+activeThen s (callOpen privileged) = s .active
+activeThen s (callClose h) = s .active
+activeThen s (callMode h mode) = s .active
+activeThen s (callTransmit h r) = s .active
+activeThen s (callReceive h) = s .active
+activeThen s callBusStart = s .active
+activeThen s (callBusResult status counts) = s .active
+activeThen s (callMessage n bytes) = cond (eqb (incomingRefusal n) 0) (activeAfter s (message n bytes)) (s .active)
+activeThen s (callTime ms) = s .active
+activeThen s (callConfigure x) = s .active
+activeThen s callUnconfigure = CEC-PHYS-ADDR-INVALID
+activeThen s (callListing rows) = s .active
+activeThen s (callLookup a) = s .active
+activeThen s callActiveAddress = s .active
+
+-- an active address is well formed, and an unconfigured adapter has none
+pub record Tracks (s : State) : Type 0 where
+  pub wellFormed : (s .active ≡ CEC-PHYS-ADDR-INVALID) ⊎ (isWellFormed (s .active) ≡ true)
+  pub unconfigured : isConfigured s ≡ false → s .active ≡ CEC-PHYS-ADDR-INVALID

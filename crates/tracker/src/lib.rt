@@ -1,0 +1,85 @@
+// The routing tracker: a message from the wire, heard by it after the six steps.
+ghost use mathlib.Core.Logic.{_≢_};
+ghost use mathlib.Core.Path.{_≡_};
+ghost use Rattle.parts.specs.Parts.{stateOf, doneOf};
+ghost use Rattle.rules.specs.Tracker.{isOf, tells, toldAddress, setsActive, clearsActive, tracked, doMessage};
+use constants::CEC_LOG_ADDR_BROADCAST;
+use constants::CEC_MSG_ACTIVE_SOURCE;
+use constants::CEC_MSG_INACTIVE_SOURCE;
+use constants::CEC_MSG_ROUTING_CHANGE;
+use constants::CEC_MSG_SET_STREAM_PATH;
+use constants::CEC_PHYS_ADDR_INVALID;
+use message::Message;
+use parts::Done;
+use parts::Parts;
+use route::address::is_well_formed;
+
+fn is_of(message: Message, opcode: u8, length: u8) -> bool
+    ensures { λ r. ⌜ r ≡ isOf opcode length message ⌝ }
+{
+    (message.opcode() == opcode) & (message.length() == length)
+}
+
+// Whether a message tells which address is active now.
+fn tells(message: Message) -> bool
+    ensures { λ r. ⌜ r ≡ tells message ⌝ }
+{
+    is_of(message, CEC_MSG_ACTIVE_SOURCE, 4)
+        | is_of(message, CEC_MSG_ROUTING_CHANGE, 6)
+        | is_of(message, CEC_MSG_SET_STREAM_PATH, 4)
+}
+
+// The second address of a routing change, else the first.
+fn told_address(message: Message) -> u16
+    ensures { λ r. ⌜ r ≡ toldAddress message ⌝ }
+{
+    if message.opcode() == CEC_MSG_ROUTING_CHANGE {
+        message.second_address()
+    } else {
+        message.first_address()
+    }
+}
+
+fn sets_active(message: Message) -> bool
+    ensures { λ r. ⌜ r ≡ setsActive message ⌝ }
+{
+    tells(message)
+        & (message.destination() == CEC_LOG_ADDR_BROADCAST)
+        & is_well_formed(told_address(message))
+}
+
+fn clears_active(active: u16, message: Message) -> bool
+    ensures { λ r. ⌜ r ≡ clearsActive active message ⌝ }
+{
+    is_of(message, CEC_MSG_INACTIVE_SOURCE, 4) & (message.first_address() == active)
+}
+
+// The active address after a message.
+fn tracked(active: u16, message: Message) -> u16
+    ensures { λ r. ⌜ r ≡ tracked active message ⌝ }
+{
+    if sets_active(message) {
+        return told_address(message);
+    }
+    if clears_active(active, message) {
+        CEC_PHYS_ADDR_INVALID
+    } else {
+        active
+    }
+}
+
+pub fn message(parts: Parts, length: u8, bytes: [u8; 16]) -> Done
+    ensures { λ r. ⌜ doneOf r ≡ doMessage (stateOf parts) length bytes ⌝ }
+    ensures { λ r. ⌜ (r .errno ≢ 0 → r .parts ≡ parts) ⌝ }
+{
+    let done = incoming::message(parts, length, bytes);
+    let errno = done.errno;
+    let mut after = done.parts;
+    if (errno == 0) & parts.is_configured() {
+        after.active = tracked(parts.active, Message::new(length, bytes));
+    }
+    Done {
+        parts: after,
+        errno: errno,
+    }
+}
