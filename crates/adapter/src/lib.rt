@@ -164,7 +164,7 @@ impl Adapter {
         ensures { λ r. ⌜ doneOf r ≡ step (stateOf self) (callMessage length bytes) ⌝ }
         ensures { λ r. ⌜ (r .errno ≢ 0 → r ≡ refusedCall self (r .errno)) ⌝ }
     {
-        let heard = tracker::message(self.parts, length, bytes);
+        let heard = incoming::message(self.parts, length, bytes);
         let parts = heard.parts;
         Done {
             adapter: Adapter { parts: parts },

@@ -1,9 +1,11 @@
-// A message from the wire, in six steps.
+// A message from the wire, in six steps, and for the tracker.
+ghost use mathlib.Core.Bool.{cond};
 ghost use mathlib.Core.Logic.{_≢_};
 ghost use mathlib.Core.Path.{_≡_};
 ghost use Rattle.parts.specs.Parts.{stateOf, doneOf};
 ghost use Rattle.rules.specs.Handles.{isHere};
-ghost use Rattle.rules.specs.Incoming.{incomingRefusal, doSteps};
+ghost use Rattle.rules.specs.Incoming.{incomingRefusal};
+ghost use Rattle.rules.specs.Tracker.{activeAfter, doMessage};
 ghost use Rattle.incoming.specs.Steps.{monitorKind, followerKind, goesOn};
 ghost use Rattle.incoming.specs.Work.{toDoOf};
 
@@ -100,12 +102,24 @@ fn later_steps(parts: Parts, further: bool, message: Message) -> ToDo
     }
 }
 
+// The active address afterwards: an accepted message is heard while configured.
+fn active_after(parts: Parts, accepted: bool, message: Message) -> u16
+    ensures { λ r. ⌜ r ≡ cond accepted (activeAfter (stateOf parts) message) (parts .active) ⌝ }
+{
+    if accepted & parts.is_configured() {
+        tracker::tracked(parts.active, message)
+    } else {
+        parts.active
+    }
+}
+
 pub fn message(mut parts: Parts, length: u8, bytes: [u8; 16]) -> Done
-    ensures { λ r. ⌜ doneOf r ≡ doSteps (stateOf parts) length bytes ⌝ }
+    ensures { λ r. ⌜ doneOf r ≡ doMessage (stateOf parts) length bytes ⌝ }
     ensures { λ r. ⌜ (r .errno ≢ 0 → r .parts ≡ parts) ⌝ }
 {
     let errno = message_errno(length);
     let message = Message::new(length, bytes);
+    let active = active_after(parts, errno == 0, message);
     let handles = parts.handles;
     let here = is_here(parts, message.destination());
     let monitors = step::receivers(errno == 0, handles, monitor_kind(here));
@@ -131,6 +145,7 @@ pub fn message(mut parts: Parts, length: u8, bytes: [u8; 16]) -> Done
     if to_do.followers != NOBODY {
         parts = copies::copies(parts, to_do.followers, Entry::message_copy(message));
     }
+    parts.active = active;
     Done {
         parts: parts,
         errno: errno,

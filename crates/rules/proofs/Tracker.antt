@@ -98,11 +98,6 @@ unconfigured-none s = tracker-moves s callUnconfigure
 pub refused-unheard : (s : State) (n : ℕ) (bytes : List ℕ) (e : ℕ) → step s (callMessage n bytes) .answer ≡ refused e → step s (callMessage n bytes) .state .active ≡ s .active
 refused-unheard s n bytes e q = ap (λ (t : State). t .active) (refused-same s (callMessage n bytes) e q)
 
--- unconfigured it hears nothing: the six steps end with the copies for monitors
-pub unconfigured-unheard : (s : State) (m : Message) → isConfigured s ≡ false → heard s m .active ≡ s .active
-unfolding heardWith
-unconfigured-unheard s m q = rw q (copies-active (inRole (monitors s m)) (messageCopy m) s)
-
 -- ---- over any list of calls
 -- steps 3 to 6 of a message leave the settings
 handled-settings : (s : State) (said : Bool) (reply : List ℕ) (t : Taken) (m : Message) → handled s said reply t m .settings ≡ s .settings

@@ -7,9 +7,9 @@ use lib.Dec.{eqb, leb}
 use Rattle.constants.specs.Kernel.{EINVAL, CEC-MODE-FOLLOWER, CEC-MODE-MONITOR-ALL, CEC-OP-ABORT-UNRECOGNIZED-OP}
 use Rattle.entry.specs.Entry.{reply, featureAbortReply, messageCopy}
 use Rattle.entry.specs.declared.Entry.{Entry}
-use Rattle.message.specs.Message.{message, initiator, destination, opcode, isFeatureAbort}
+use Rattle.message.specs.Message.{initiator, destination, opcode, isFeatureAbort}
 use Rattle.message.specs.declared.Message.{Message}
-use Rattle.rules.specs.Call.{Outcome, finish, unless, check, Answer}
+use Rattle.rules.specs.Call.{check}
 use Rattle.rules.specs.Core.{sends, isDirected, isRegistered, answers, isNoted, notes, featureAbort}
 use Rattle.rules.specs.Deliver.{deliver, copies}
 use Rattle.rules.specs.Derived.{Derived, counted}
@@ -78,6 +78,3 @@ heardWith s answered bytes m =
 
 abbrev pub heard : State → Message → State
 heard s m = heardWith s (isAnswered s m) (answerFor (s .settings) m) m
-
-unfoldable pub doSteps : State → ℕ → List ℕ → Outcome
-doSteps s n bytes = unless (incomingRefusal n) s (finish Answer.done (heard s (message n bytes)))

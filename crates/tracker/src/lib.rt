@@ -1,8 +1,6 @@
-// The routing tracker: a message from the wire, heard by it after the six steps.
-ghost use mathlib.Core.Logic.{_≢_};
+// The routing tracker: the active address after a message from the wire.
 ghost use mathlib.Core.Path.{_≡_};
-ghost use Rattle.parts.specs.Parts.{stateOf, doneOf};
-ghost use Rattle.rules.specs.Tracker.{isOf, tells, toldAddress, setsActive, clearsActive, tracked, doMessage};
+ghost use Rattle.rules.specs.Tracker.{isOf, tells, toldAddress, setsActive, clearsActive, tracked};
 use constants::CEC_LOG_ADDR_BROADCAST;
 use constants::CEC_MSG_ACTIVE_SOURCE;
 use constants::CEC_MSG_INACTIVE_SOURCE;
@@ -10,8 +8,6 @@ use constants::CEC_MSG_ROUTING_CHANGE;
 use constants::CEC_MSG_SET_STREAM_PATH;
 use constants::CEC_PHYS_ADDR_INVALID;
 use message::Message;
-use parts::Done;
-use parts::Parts;
 use route::address::is_well_formed;
 
 fn is_of(message: Message, opcode: u8, length: u8) -> bool
@@ -54,8 +50,8 @@ fn clears_active(active: u16, message: Message) -> bool
     is_of(message, CEC_MSG_INACTIVE_SOURCE, 4) & (message.first_address() == active)
 }
 
-// The active address after a message.
-fn tracked(active: u16, message: Message) -> u16
+// The active address after a message that is heard.
+pub fn tracked(active: u16, message: Message) -> u16
     ensures { λ r. ⌜ r ≡ tracked active message ⌝ }
 {
     if sets_active(message) {
@@ -65,21 +61,5 @@ fn tracked(active: u16, message: Message) -> u16
         CEC_PHYS_ADDR_INVALID
     } else {
         active
-    }
-}
-
-pub fn message(parts: Parts, length: u8, bytes: [u8; 16]) -> Done
-    ensures { λ r. ⌜ doneOf r ≡ doMessage (stateOf parts) length bytes ⌝ }
-    ensures { λ r. ⌜ (r .errno ≢ 0 → r .parts ≡ parts) ⌝ }
-{
-    let done = incoming::message(parts, length, bytes);
-    let errno = done.errno;
-    let mut after = done.parts;
-    if (errno == 0) & parts.is_configured() {
-        after.active = tracked(parts.active, Message::new(length, bytes));
-    }
-    Done {
-        parts: after,
-        errno: errno,
     }
 }

@@ -10,7 +10,7 @@ use Rattle.copies.specs.Kinds.{getsCopies, NOBODY}
 use Rattle.entry.specs.Entry.{messageCopy}
 use Rattle.entry.specs.declared.Entry.{Entry}
 use Rattle.inbox.proofs.Arrays.{left-out, room-within, stored}
-use Rattle.incoming.proofs.Outcome.{Change, message-outcome, replied-state}
+use Rattle.incoming.proofs.Outcome.{Change, activeParts, message-outcome, replied-state}
 use Rattle.incoming.proofs.Receivers.{nobody-copies}
 use Rattle.incoming.proofs.Turns.{doCopies, doNote, doReply, doSend}
 use Rattle.incoming.specs.Steps.{receiversOf}
@@ -23,7 +23,8 @@ use Rattle.parts.specs.Parts.{doneOf, stateOf}
 use Rattle.parts.specs.declared.Parts.{Parts}
 use Rattle.rules.specs.Deliver.{copies}
 use Rattle.rules.specs.Handles.{inRole, isHere}
-use Rattle.rules.specs.Incoming.{doSteps, replyEntry}
+use Rattle.rules.specs.Incoming.{replyEntry}
+use Rattle.rules.specs.Tracker.{doMessage}
 use Rattle.incoming.proofs.message.Statement.{statement}
 use Rattle.incoming.proofs.message.Tie as tie
 
@@ -32,6 +33,9 @@ message-errno-requires c κs = search needs
 
 new-requires : tie.Need-new-requires
 new-requires c κs = search needs
+
+active-after-requires : tie.Need-active-after-requires
+active-after-requires c κs = search needs
 
 destination-requires : tie.Need-destination-requires
 destination-requires c κs = search needs
@@ -69,14 +73,14 @@ cast-h c = search needs
 reply-entry-requires : tie.Need-reply-entry-requires
 reply-entry-requires c κs = search needs
 
-mul-t29 : tie.Need-mul-t29
-mul-t29 c = search needs
+mul-t30 : tie.Need-mul-t30
+mul-t30 c = search needs
 
-add-t30 : tie.Need-add-t30
-add-t30 c = search needs
+add-t31 : tie.Need-add-t31
+add-t31 c = search needs
 
-mul-t31 : tie.Need-mul-t31
-mul-t31 c = search needs
+mul-t32 : tie.Need-mul-t32
+mul-t32 c = search needs
 
 element-set-from-parts : tie.Need-element-set-from-parts
 element-set-from-parts c = room-within _ _ (c .before .if3 .taken) .2
@@ -111,23 +115,26 @@ module _ (c : tie.Joined5) where
   toDo = c .before .before .before .later-steps .result
 
   abbrev message : Message
-  message = let sees = c .before .before .before .before .before .before in sees .before .before .before .before .before .new .result
+  message = let sees = c .before .before .before .before .before .before in sees .before .before .before .before .before .before .new .result
+
+  abbrev active : ℕ
+  active = let sees = c .before .before .before .before .before .before in sees .before .before .before .before .before .active-after .result
 
   abbrev errno : ℕ
-  errno = let sees = c .before .before .before .before .before .before in sees .before .before .before .before .before .before .message-errno .result
+  errno = let sees = c .before .before .before .before .before .before in sees .before .before .before .before .before .before .before .message-errno .result
 
   abbrev given : Parts
-  given = let sees = c .before .before .before .before .before .before in sees .before .before .before .before .before .before .before .args .t1
+  given = let sees = c .before .before .before .before .before .before in sees .before .before .before .before .before .before .before .before .args .t1
 
   abbrev size : ℕ
-  size = let sees = c .before .before .before .before .before .before in sees .before .before .before .before .before .before .before .args .length
+  size = let sees = c .before .before .before .before .before .before in sees .before .before .before .before .before .before .before .before .args .length
 
   abbrev bytes : List ℕ
-  bytes = let sees = c .before .before .before .before .before .before in sees .before .before .before .before .before .before .before .args .bytes
+  bytes = let sees = c .before .before .before .before .before .before in sees .before .before .before .before .before .before .before .before .args .bytes
 
 before-copies : (c : tie.Joined5) (q : Parts)
     → Change (c .if5 .parts) (doCopies (toDo c) (message c) (stateOf (c .if5 .parts))) (toDo c .followers ≡ NOBODY) q
-    → (doneOf (record { parts = q; errno = errno c }) ≡ doSteps (stateOf (given c)) (size c) (bytes c)) × (errno c ≢ 0 → q ≡ given c)
+    → (doneOf (record { parts = activeParts q (active c); errno = errno c }) ≡ doMessage (stateOf (given c)) (size c) (bytes c)) × (errno c ≢ 0 → activeParts q (active c) ≡ given c)
 before-copies c q last =
     let j4 = c .before in
     let j2 = j4 .before in
@@ -135,7 +142,8 @@ before-copies c q last =
     let j1 = done .before .before in
     let sees = j1 .before in
     let there = sees .before .before in
-    let made = there .before .before .before in
+    let tracks = there .before .before .before in
+    let made = tracks .before in
     let start = made .before .before in
     let p = start .args .t1 in
     let m = made .new .result in
@@ -181,9 +189,10 @@ before-copies c q last =
     let refuses = made .before .message-errno in
     let monitored = sees .receivers .ensures ∙ ap (receiversOf (eqb (refuses .result) 0) (stateOf p .handles)) (sees .before .monitor-kind .ensures) in
     let steps = done .later-steps .ensures ∙ ap (λ (b : Bool). toDoOf s1 (eqb (refuses .result) 0 && b) m) (done .before .goes-on .ensures) in
-    message-outcome (refuses .result) (start .args .length) (start .args .bytes) m (there .is-here .result) kind x p p1 p2 p3 p4 q
+    message-outcome (refuses .result) (start .args .length) (start .args .bytes) m (tracks .active-after .result) (there .is-here .result) kind x p p1 p2 p3 p4 q
     (refuses .ensures)
     (made .new .ensures)
+    (tracks .active-after .ensures)
     (there .is-here .ensures ∙ ap (isHere (stateOf p)) (there .before .destination .ensures .0))
     monitored
     steps
@@ -210,6 +219,7 @@ message-spec =
     (tie.spec
     message-errno-requires
     new-requires
+    active-after-requires
     destination-requires
     is-here-requires
     monitor-kind-requires
@@ -222,9 +232,9 @@ message-spec =
     count-at-requires
     cast-h
     reply-entry-requires
-    mul-t29
-    add-t30
-    mul-t31
+    mul-t30
+    add-t31
+    mul-t32
     element-set-from-parts
     add-parts
     mul-parts
