@@ -73,6 +73,12 @@ static OWN_FRAME void show_lookup(const char *name, unsigned address)
     print_bytes(name, &answer, sizeof answer);
 }
 
+static OWN_FRAME void show_route(const char *name, uint16_t first, uint16_t second)
+{
+    struct cec_route_answer answer = cec_route(first, second);
+    print_bytes(name, &answer, sizeof answer);
+}
+
 /* The rows are lent with something where no field of the proved code is. */
 static OWN_FRAME void show_rows(void)
 {
@@ -160,6 +166,8 @@ static void answers(void)
     SOILED(show_receive("receive, a copy", 1));
     SOILED(show_lookup("lookup", 0));
     SOILED(show_lookup("lookup, EINVAL", 15));
+    SOILED(show_route("route", 0x2000, 0x2100));
+    SOILED(show_route("route, EINVAL", 0x2000, 0x2010));
     for (int i = 2; i < 8; i++)
         cec_open(&adapter, false);
     SOILED(show_open("open, EMFILE"));

@@ -1,9 +1,10 @@
-"""Two programs share one adapter, from Python by ctypes, over the shared object that c/run builds."""
+"""Two programs share one adapter, and are told where the picture is, from Python by ctypes, over the shared object that c/run builds."""
 import ctypes
 import sys
-from ctypes import Structure, c_bool, c_uint8, c_uint32, c_uint64
+from ctypes import Structure, c_bool, c_uint8, c_uint16, c_uint32, c_uint64
 
 GIVE_DEVICE_POWER_STATUS, REPORT_POWER_STATUS = 0x8F, 0x90
+ACTIVE_SOURCE = 0x82
 TX_STATUS_OK = 0x01
 
 
@@ -29,10 +30,14 @@ class Request(Structure):
 
 class Settings(Structure):
     _fields_ = [
-        ("physical_address", ctypes.c_uint16), ("mask", ctypes.c_uint16), ("version", c_uint8), ("device_type", c_uint8),
+        ("physical_address", c_uint16), ("mask", c_uint16), ("version", c_uint8), ("device_type", c_uint8),
         ("vendor_id", c_uint32), ("name_length", c_uint8), ("name", c_uint8 * 14),
         ("all_device_types", c_uint8), ("rc_profile", c_uint8), ("device_features", c_uint8),
     ]
+
+
+class Route(Structure):
+    _fields_ = [("error", c_uint32), ("ancestor", c_uint16), ("on_path", c_bool), ("port", c_uint8)]
 
 
 def after(*fields):
@@ -44,19 +49,22 @@ library = ctypes.CDLL(sys.argv[1])
 
 
 def declare(name, result, *arguments):
-    function = getattr(library, "cec_adapter_" + name)
+    function = getattr(library, "cec_" + name)
     function.restype, function.argtypes = result, arguments
     return function
 
 
-new = declare("new", Adapter, c_bool, c_bool)
-size = declare("size", ctypes.c_size_t)
-open_ = declare("open", after(("handle", c_uint8)), Adapter, c_bool)
-configure = declare("configure", after(), Adapter, Settings)
-transmit = declare("transmit", after(("sequence", c_uint32), ("tx_status", c_uint8)), Adapter, c_uint8, Request)
-bus_start = declare("bus_start", after(("message", Message)), Adapter)
-bus_result = declare("bus_result", after(), Adapter, c_uint8, Counts)
-receive = declare("receive", after(("entry", Entry)), Adapter, c_uint8)
+new = declare("adapter_new", Adapter, c_bool, c_bool)
+size = declare("adapter_size", ctypes.c_size_t)
+open_ = declare("adapter_open", after(("handle", c_uint8)), Adapter, c_bool)
+configure = declare("adapter_configure", after(), Adapter, Settings)
+transmit = declare("adapter_transmit", after(("sequence", c_uint32), ("tx_status", c_uint8)), Adapter, c_uint8, Request)
+bus_start = declare("adapter_bus_start", after(("message", Message)), Adapter)
+bus_result = declare("adapter_bus_result", after(), Adapter, c_uint8, Counts)
+receive = declare("adapter_receive", after(("entry", Entry)), Adapter, c_uint8)
+received = declare("adapter_received", after(), Adapter, Message)
+active_address = declare("adapter_active_address", c_uint16, Adapter)
+route = declare("route", Route, c_uint16, c_uint16)
 
 assert size() == ctypes.sizeof(Adapter)
 adapter = new(True, True)
@@ -87,3 +95,7 @@ for name, handle in (("chart", chart), ("camera", camera)):
     answer = call(receive, handle)
     print(f"{name}: errno {answer.error}, number {answer.entry.sequence}, tx_status {answer.entry.tx_status}")
     print(f"{name}: errno {call(receive, handle).error}")
+print(f"picture: {active_address(adapter):04x}")
+call(received, Message(4, (c_uint8 * 16)(0x5F, ACTIVE_SOURCE, 0x21, 0x00)))
+picture = active_address(adapter)
+print(f"picture: {picture:04x}, through port {route(0x0000, picture).port} of 0000 and port {route(0x2000, picture).port} of 2000")

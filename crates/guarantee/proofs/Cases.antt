@@ -60,7 +60,7 @@ abbrev pub InSilence : State → (Call → Outcome → Type 0) → Call → Outc
 InSilence s P c o = Silent s c o → P c o
 
 pub record Cases (s : State) (P : Call → Outcome → Type 0) : Type 0 where
-  -- a refused call; a mode set; a poll answered at once; a configure, a listing and a lookup
+  -- a refused call; a mode set; a poll answered at once; a configure, a listing, a lookup and the active address
   pub whenQuiet : (c : Call) (a : Answer) (t : State) → Quiet s c a t → InSilence s P c (finish a (calm s t))
   pub whenOpened : (i : ℕ) (p : Bool) → i < 8 → isOpen s i ≡ false → InSilence s P (callOpen p) (finish (opened i) (withHandles s (set (s .handles) i (openedHandle p))))
   pub whenClosed : (g : ℕ) → g < 8 → isOpen s g ≡ true → InSilence s P (callClose g) (finish done (closed s g))

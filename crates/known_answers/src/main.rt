@@ -211,6 +211,42 @@ fn features_asked(version: u8, types: u8, profile: u8, features: u8) -> [u8; 16]
     core_asked(adapter, 0xA5).bus_start().message.bytes()
 }
 
+// A message from the wire, with the first bytes of two physical addresses.
+fn told(adapter: Adapter, header: u8, length: u8, opcode: u8, first: u8, second: u8) -> Adapter {
+    let mut bytes = [0; 16];
+    bytes[0] = header;
+    bytes[1] = opcode;
+    bytes[2] = first;
+    bytes[4] = second;
+    adapter.received(length, bytes).adapter
+}
+
+// The active address after such a message, where 0x1000 was active before (W-205).
+fn active(header: u8, length: u8, opcode: u8, first: u8, second: u8) -> u16 {
+    let shown = told(bench(true), 0x0F, 4, 0x82, 0x10, 0);
+    told(shown, header, length, opcode, first, second).active_address()
+}
+
+fn say_address(text: &[u8], address: u16) {
+    io::write_all(1, text);
+    io::print_hex(1, address as u64, 4);
+}
+
+fn say_active(text: &[u8], address: u16) {
+    say_address(text, address);
+    io::write_all(1, b"\n");
+}
+
+fn say_way(first: u16, second: u16) {
+    let way = route::between(first, second);
+    say_address(b"way from ", first);
+    say_address(b" to ", second);
+    say(b": errno ", way.errno);
+    say_address(b", ancestor ", way.ancestor);
+    say(b", on the path ", way.on_path as u32);
+    line(b", port ", way.port as u32);
+}
+
 fn say_byte(byte: u8) {
     io::write_all(1, b" ");
     io::print_hex(1, byte as u64, 2);
@@ -309,6 +345,24 @@ fn say_masks() {
     line(b"mask 0x7FFF: errno ", owning(0x7FFF));
 }
 
+fn say_picture() {
+    say_active(b"came 0F 86 21 00: active ", active(0x0F, 4, 0x86, 0x21, 0));
+    say_active(
+        b"came 0F 80 21 00 32 00: active ",
+        active(0x0F, 6, 0x80, 0x21, 0x32),
+    );
+    say_active(b"came 04 86 21 00: active ", active(0x04, 4, 0x86, 0x21, 0));
+    say_active(
+        b"came 0F 82 21 00 00: active ",
+        active(0x0F, 5, 0x82, 0x21, 0),
+    );
+    say_active(b"came 05 9D 21 00: active ", active(0x05, 4, 0x9D, 0x21, 0));
+    say_active(b"came 05 9D 10 00: active ", active(0x05, 4, 0x9D, 0x10, 0));
+    say_way(0x2000, 0x2130);
+    say_way(0x2200, 0x2130);
+    say_way(0x2010, 0x2130);
+}
+
 fn main() {
     say_modes();
     say(b"poll 44: errno ", poll().errno);
@@ -322,4 +376,5 @@ fn main() {
     say_beside();
     say_features();
     say_masks();
+    say_picture();
 }

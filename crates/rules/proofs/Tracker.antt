@@ -149,7 +149,7 @@ module _ (s : State) (k : Tracks s) where
       split (isConfigured s)
       (λ q. record { wellFormed = rw q (tracked-well (s .active) m (k .wellFormed)); unconfigured = λ r. clash q (rw p at r) })
       (λ q. same (withActive t (activeAfter s m)) p (rw q))
-  
+
   step-tracks : (c : Call) → Tracks (step s c .state)
   unfolding doOpen doClose doMode doTransmit doReceive doBusStart doBusResult doMessage doTime doConfigure doUnconfigure doListing doLookup
   step-tracks (callOpen p) = checked _ _ (λ _. same _ refl refl)
