@@ -2,7 +2,7 @@
 BEGIN {
     split("u8 uint8_t u16 uint16_t u32 uint32_t usize size_t bool bool", plain, " ")
     for (i = 1; i in plain; i += 2) c_type[plain[i]] = plain[i + 1]
-    split("Adapter adapter Message message Counts counts Entry entry Request request Settings settings Row row Noted lookup_answer " \
+    split("Adapter adapter Message message Counts counts Entry entry Request request Settings settings Row row Noted lookup_answer Route route_answer " \
           "Done after Opened after_open Transmitted after_transmit Received after_receive Started after_bus_start", struct, " ")
     for (i = 1; i in struct; i += 2) c_type[struct[i]] = "struct cec_" struct[i + 1]
 }
