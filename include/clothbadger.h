@@ -494,9 +494,10 @@ static inline struct cec_lookup_answer cec_lookup(const struct cec_adapter *adap
 }
 
 /*
- * The physical address that has the picture, CEC_PHYS_ADDR_INVALID for none, by the messages that came from the wire while the
- * adapter was configured: the last CEC_MSG_ACTIVE_SOURCE, CEC_MSG_ROUTING_CHANGE (the second address) or CEC_MSG_SET_STREAM_PATH
- * to all, until CEC_MSG_INACTIVE_SOURCE names the same address.
+ * The physical address that has the picture, CEC_PHYS_ADDR_INVALID for none, by the messages that came from the wire since the
+ * adapter was configured. CEC_MSG_ACTIVE_SOURCE and CEC_MSG_SET_STREAM_PATH, of 4 bytes, set it, and CEC_MSG_ROUTING_CHANGE, of 6
+ * bytes, to its second address: sent to all, and only to an address that cec_route() takes. CEC_MSG_INACTIVE_SOURCE, of 4 bytes, to
+ * anyone, with that same address clears it; so does cec_unconfigure().
  */
 static inline uint16_t cec_active_address(const struct cec_adapter *adapter)
 {

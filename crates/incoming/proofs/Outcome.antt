@@ -28,7 +28,7 @@ use Rattle.rules.specs.Deliver.{copies, deliver}
 use Rattle.rules.specs.Handles.{inRole, isHere}
 use Rattle.rules.specs.Incoming.{heard, incomingRefusal, monitors}
 use Rattle.rules.specs.State.{State, withInboxes, withWaits, withActive}
-use Rattle.rules.specs.Tracker.{activeAfter, doMessage}
+use Rattle.rules.specs.Tracker.{activeAfterMessage, doMessage}
 use Rattle.wait.specs.declared.Wait.{Wait}
 
 -- the parts q come from p with this state, and are p itself if nothing is to be done
@@ -55,7 +55,7 @@ activeParts p a = record {
 pub message-outcome : (errno length : ℕ) (bytes : List ℕ) (m : Message) (active : ℕ) (here : Bool) (kind : ℕ) (x : ToDo) (p0 p1 p2 p3 p4 p5 : Parts)
     → errno ≡ incomingRefusal length
     → m ≡ message length bytes
-    → active ≡ cond (eqb errno 0) (activeAfter (stateOf p0) m) (p0 .active)
+    → active ≡ cond (eqb errno 0) (activeAfterMessage (stateOf p0) m) (p0 .active)
     → here ≡ isHere (stateOf p0) (destination (m .bytes))
     → kind ≡ receiversOf (eqb errno 0) (stateOf p0 .handles) (monitorKind here)
     → x ≡ toDoOf (stateOf p1) (eqb errno 0 && goesOn (stateOf p1) m) m
@@ -88,7 +88,7 @@ message-outcome errno length bytes m active here kind x p0 p1 p2 p3 p4 p5 refusa
     let heardAll : eqb errno 0 ≡ true → stateOf p5 ≡ heard s m =
     λ f. heard-all s u (stateOf p5) m (copied f)
     (all ∙ ap (λ (y : ToDo). doAll y m u) (todo ∙ ap (λ (b : Bool). toDoOf u (b && goesOn u m) m) f) ∙ done-all u (goesOn u m) m) in
-    let after : Message → State = λ n. withActive (heard s n) (activeAfter s n) in
+    let after : Message → State = λ n. withActive (heard s n) (activeAfterMessage s n) in
     let taken = finish Answer.done (after (message length bytes)) in
     let heardSo : eqb errno 0 ≡ true → withActive (stateOf p5) active ≡ after m =
     λ f. ap (λ (t : State). withActive t active) (heardAll f) ∙ ap (withActive (heard s m)) (tracks ∙ rw f) in (

@@ -5,7 +5,7 @@ ghost use mathlib.Core.Path.{_≡_};
 ghost use Rattle.parts.specs.Parts.{stateOf, doneOf};
 ghost use Rattle.rules.specs.Handles.{isHere};
 ghost use Rattle.rules.specs.Incoming.{incomingRefusal};
-ghost use Rattle.rules.specs.Tracker.{activeAfter, doMessage};
+ghost use Rattle.rules.specs.Tracker.{activeAfterMessage, doMessage};
 ghost use Rattle.incoming.specs.Steps.{monitorKind, followerKind, goesOn};
 ghost use Rattle.incoming.specs.Work.{toDoOf};
 
@@ -104,7 +104,7 @@ fn later_steps(parts: Parts, further: bool, message: Message) -> ToDo
 
 // The active address afterwards: an accepted message is heard while configured.
 fn active_after(parts: Parts, accepted: bool, message: Message) -> u16
-    ensures { λ r. ⌜ r ≡ cond accepted (activeAfter (stateOf parts) message) (parts .active) ⌝ }
+    ensures { λ r. ⌜ r ≡ cond accepted (activeAfterMessage (stateOf parts) message) (parts .active) ⌝ }
 {
     if accepted & parts.is_configured() {
         tracker::tracked(parts.active, message)

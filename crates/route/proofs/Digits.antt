@@ -4,10 +4,10 @@ use Prim.Native.Nat.{ℕ, zero, suc, _+_, _-_, _*_, _≤_, _<_}
 use mathlib.Core.Path.{_≡_}
 use native.Mathlib.Omega.{arith}
 use Rattle.route.specs.Address.{depth, parent, weightAt, digitAt}
-use Rattle.route.proofs.Tree.{Cases, by-depth, depth-le}
+use Rattle.route.proofs.Tree.{ByDepth, by-depth, depth-le}
 
 -- a proof by the digit and by the depth
-by-digit : (P : ℕ → ℕ → ℕ → Type 0) (a : ℕ) → Cases a (P 0) → Cases a (P 1) → Cases a (P 2) → Cases a (P 3) → (i : ℕ) → i < 4 → P i (depth a) (parent a)
+by-digit : (P : ℕ → ℕ → ℕ → Type 0) (a : ℕ) → ByDepth a (P 0) → ByDepth a (P 1) → ByDepth a (P 2) → ByDepth a (P 3) → (i : ℕ) → i < 4 → P i (depth a) (parent a)
 by-digit P a k0 k1 k2 k3 zero l = by-depth (P 0) a k0
 by-digit P a k0 k1 k2 k3 (suc zero) l = by-depth (P 1) a k1
 by-digit P a k0 k1 k2 k3 (suc (suc zero)) l = by-depth (P 2) a k2

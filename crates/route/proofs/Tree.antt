@@ -11,7 +11,7 @@ use Rattle.route.specs.Address.{depth, parent, up, IsAncestor, upFrom, c
 use Rattle.route.specs.Route.{IsDeepest}
 
 -- what holds of the depth and the parent, by the last non-zero digit
-pub record Cases (a : ℕ) (P : ℕ → ℕ → Type 0) : Type 0 where
+pub record ByDepth (a : ℕ) (P : ℕ → ℕ → Type 0) : Type 0 where
   pub fourth : a % 16 ≢ 0 → P 4 (a - a % 16)
   pub third : a % 16 ≡ 0 → a % 256 ≢ 0 → P 3 (a - a % 256)
   pub second : a % 256 ≡ 0 → a % 4096 ≢ 0 → P 2 (a - a % 4096)
@@ -19,7 +19,7 @@ pub record Cases (a : ℕ) (P : ℕ → ℕ → Type 0) : Type 0 where
   pub none : a ≡ 0 → P 0 0
 
 -- a proof by the last non-zero digit
-pub by-depth : (P : ℕ → ℕ → Type 0) (a : ℕ) → Cases a P → P (depth a) (parent a)
+pub by-depth : (P : ℕ → ℕ → Type 0) (a : ℕ) → ByDepth a P → P (depth a) (parent a)
 unfolding depth parent
 by-depth P a k =
     split (eqb (a % 16) 0)
@@ -45,7 +45,7 @@ both-zero : (a b : ℕ) → depth a ≡ 0 → depth b ≡ 0 → a ≡ b
 both-zero a b d e = depth-zero a d ∙ sym (depth-zero b e)
 
 -- no deeper than n
-within : (n a : ℕ) → Cases a (λ d _. d ≤ n) → depth a ≤ n
+within : (n a : ℕ) → ByDepth a (λ d _. d ≤ n) → depth a ≤ n
 within n = by-depth (λ d _. d ≤ n)
 
 -- a parent is less deep, but for 0.0.0.0

@@ -20,7 +20,7 @@ abbrev pub zerosLast : List ℕ → Bool
 zerosLast [] = Bool.true
 zerosLast (d ∷ ds) = cond (eqb d 0) (areZero ds) (zerosLast ds)
 
--- "An address is well formed if no non-zero digit follows a zero and it is not 0xFFFF."
+-- "An address is well formed if no non-zero digit follows a zero and it is not 0xFFFF." It is said of numbers of 16 bits, as which the code has every address
 unfoldable pub isWellFormed : ℕ → Bool
 isWellFormed a = zerosLast (digits a) && not (eqb a CEC-PHYS-ADDR-INVALID)
 
@@ -32,7 +32,7 @@ depth a = cond (not (eqb (a % 16) 0)) 4 (cond (not (eqb (a % 256) 0)) 3 (cond (n
 unfoldable pub parent : ℕ → ℕ
 parent a = cond (not (eqb (a % 16) 0)) (a - a % 16) (cond (not (eqb (a % 256) 0)) (a - a % 256) (cond (not (eqb (a % 4096) 0)) (a - a % 4096) 0))
 
--- so many times the parent's parent
+-- the parent, so many times
 abbrev pub up : ℕ → ℕ → ℕ
 up zero a = a
 up (suc n) a = up n (parent a)
@@ -41,7 +41,7 @@ up (suc n) a = up n (parent a)
 abbrev pub IsAncestor : ℕ → ℕ → Type 0
 IsAncestor x a = (n : ℕ) × (x ≡ up n a)
 
--- up from the deeper of two that differ, or from both
+-- up from the deeper of two that differ, or from both if they are as deep
 unfoldable pub upFrom : (ℕ → ℕ → ℕ) → ℕ → ℕ → ℕ
 upFrom later a b = cond (eqb a b) a (cond (ltb (depth a) (depth b)) (later a (parent b)) (cond (ltb (depth b) (depth a)) (later (parent a) b) (later (parent a) (parent b))))
 
@@ -63,7 +63,7 @@ reaches (suc n) x a = eqb x a || reaches n x (parent a)
 unfoldable pub onPath : ℕ → ℕ → Bool
 onPath a b = reaches 4 a b
 
--- what one of the digit after a depth counts
+-- the weight of the digit after a depth: 4096 for the first digit, 1 for the fourth
 unfoldable pub weightAt : ℕ → ℕ
 weightAt d = cond (eqb d 0) 4096 (cond (eqb d 1) 256 (cond (eqb d 2) 16 1))
 

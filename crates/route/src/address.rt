@@ -50,7 +50,7 @@ pub fn parent(address: u16) -> u16
     0
 }
 
-// What one of the digit after a depth counts.
+// The weight of the digit after a depth: 4096 for the first digit, 1 for the fourth.
 fn weight_at(depth: u8) -> u16
     ensures { λ r. ⌜ r ≡ weightAt depth ⌝ }
     ensures { λ r. ⌜ 1 ≤ r ⌝ }
@@ -70,7 +70,7 @@ pub fn digit_at(depth: u8, address: u16) -> u8
     (address / weight_at(depth) % 16) as u8
 }
 
-// The deepest common ancestor: up from the deeper of two that differ, or from both. The depth of the deeper, at most four, falls at each call.
+// The deepest common ancestor: up from the deeper of two that differ, or from both if they are as deep. The depth of the deeper, at most four, falls at each call.
 pub fn common_ancestor(first: u16, second: u16) -> u16
     ensures { λ r. ⌜ r ≡ commonAncestor first second ⌝ }
 {

@@ -40,7 +40,7 @@ use Rattle.rules.specs.Receive.{doReceive}
 use Rattle.rules.specs.State.{State, Capabilities, fresh, withWaits, withActive}
 use Rattle.rules.specs.Step.{step, after}
 use Rattle.rules.specs.Time.{doTime, overdue, remaining, timeoutEntry, timeOut}
-use Rattle.rules.specs.Tracker.{tells, toldAddress, setsActive, clearsActive, tracked, activeAfter, activeThen, Tracks, doMessage}
+use Rattle.rules.specs.Tracker.{namesActive, namedAddress, setsActive, clearsActive, tracked, activeAfterMessage, activeAfterCall, Tracks, doMessage}
 use Rattle.rules.specs.Transmit.{doTransmit, isSelfPoll}
 use Rattle.rules.specs.Unconfigure.{doUnconfigure, abortTransmit, abortWait, unset}
 use Rattle.waits.specs.Waits.{Taken, matchTaken}
@@ -68,12 +68,12 @@ unfolding unless
 kept n s o q = split (eqb n 0) (λ e. rw e q) (λ e. rw e)
 
 -- a message that is accepted is heard
-message-moves : (s : State) (n : ℕ) (bytes : List ℕ) → step s (callMessage n bytes) .state .active ≡ activeThen s (callMessage n bytes)
+message-moves : (s : State) (n : ℕ) (bytes : List ℕ) → step s (callMessage n bytes) .state .active ≡ activeAfterCall s (callMessage n bytes)
 unfolding doMessage unless
 message-moves s n bytes = split (eqb (incomingRefusal n) 0) (λ q. rw q) (λ q. rw q)
 
 -- "hears every accepted incoming message while configured", "Unconfigure clears the tracker"; no other call moves it
-pub tracker-moves : (s : State) (c : Call) → step s c .state .active ≡ activeThen s c
+pub tracker-moves : (s : State) (c : Call) → step s c .state .active ≡ activeAfterCall s c
 unfolding doOpen doClose doMode doTransmit doReceive doBusStart doBusResult doTime doConfigure doUnconfigure doListing doLookup
 tracker-moves s (callOpen p) = kept _ s _ refl
 tracker-moves s (callClose h) = kept _ s _ refl
@@ -127,7 +127,7 @@ tracked-well : (active : ℕ) (m : Message) → (active ≡ CEC-PHYS-ADDR-INVALI
 unfolding tracked
 tracked-well active m k =
     split (setsActive m)
-    (λ q. rw q (inr (both (tells m && eqb (destination (m .bytes)) CEC-LOG-ADDR-BROADCAST) (isWellFormed (toldAddress m)) q .1)))
+    (λ q. rw q (inr (both (namesActive m && eqb (destination (m .bytes)) CEC-LOG-ADDR-BROADCAST) (isWellFormed (namedAddress m)) q .1)))
     (λ q. rw q (split (clearsActive active m) (λ r. rw r (inl refl)) (λ r. rw r k)))
 
 module _ (s : State) (k : Tracks s) where
@@ -144,11 +144,11 @@ module _ (s : State) (k : Tracks s) where
   checked n o p = split (eqb n 0) (λ e. rw e (p (eqb-true n 0 e))) (λ e. rw e k)
 
   -- a message: unconfigured it is not heard
-  message-tracks : (t : State) (m : Message) → t .settings ≡ s .settings → Tracks (withActive t (activeAfter s m))
+  message-tracks : (t : State) (m : Message) → t .settings ≡ s .settings → Tracks (withActive t (activeAfterMessage s m))
   message-tracks t m p =
       split (isConfigured s)
       (λ q. record { wellFormed = rw q (tracked-well (s .active) m (k .wellFormed)); unconfigured = λ r. clash q (rw p at r) })
-      (λ q. same (withActive t (activeAfter s m)) p (rw q))
+      (λ q. same (withActive t (activeAfterMessage s m)) p (rw q))
 
   step-tracks : (c : Call) → Tracks (step s c .state)
   unfolding doOpen doClose doMode doTransmit doReceive doBusStart doBusResult doMessage doTime doConfigure doUnconfigure doListing doLookup

@@ -1,4 +1,4 @@
--- A message from the wire, in six steps (document 01, "A message from the wire").
+-- A message from the wire, in six steps (document 01, "A message from the wire"). The call, with the tracker, is `Tracker.doMessage`.
 -- Assumes nothing.
 use Prim.Native.Nat.{ℕ}
 use mathlib.Core.Bool.{Bool, cond, _&&_, _||_, not}

@@ -19,16 +19,16 @@ use Rattle.rules.specs.State.{State, withActive}
 abbrev pub isOf : ℕ → ℕ → Message → Bool
 isOf code n m = eqb (opcode (m .bytes)) code && eqb (m .length) n
 
--- "messages 82 (length 4), 80 (length 6, the second address) and 86 (length 4)": 80 tells the address that was left, then the one that is active now
-abbrev pub tells : Message → Bool
-tells m = isOf CEC-MSG-ACTIVE-SOURCE 4 m || isOf CEC-MSG-ROUTING-CHANGE 6 m || isOf CEC-MSG-SET-STREAM-PATH 4 m
+-- "messages 82 (length 4), 80 (length 6, the second address) and 86 (length 4)": 80 names the address that was left, then the one that is active now
+abbrev pub namesActive : Message → Bool
+namesActive m = isOf CEC-MSG-ACTIVE-SOURCE 4 m || isOf CEC-MSG-ROUTING-CHANGE 6 m || isOf CEC-MSG-SET-STREAM-PATH 4 m
 
-abbrev pub toldAddress : Message → ℕ
-toldAddress m = cond (eqb (opcode (m .bytes)) CEC-MSG-ROUTING-CHANGE) (addressAt 4 (m .bytes)) (addressAt 2 (m .bytes))
+abbrev pub namedAddress : Message → ℕ
+namedAddress m = cond (eqb (opcode (m .bytes)) CEC-MSG-ROUTING-CHANGE) (addressAt 4 (m .bytes)) (addressAt 2 (m .bytes))
 
 -- "sent to 15 with a well-formed address, set it"
 abbrev pub setsActive : Message → Bool
-setsActive m = tells m && eqb (destination (m .bytes)) CEC-LOG-ADDR-BROADCAST && isWellFormed (toldAddress m)
+setsActive m = namesActive m && eqb (destination (m .bytes)) CEC-LOG-ADDR-BROADCAST && isWellFormed (namedAddress m)
 
 -- "9D (length 4), to anyone, with that same address clears it"
 abbrev pub clearsActive : ℕ → Message → Bool
@@ -36,38 +36,38 @@ clearsActive active m = isOf CEC-MSG-INACTIVE-SOURCE 4 m && eqb (addressAt 2 (m 
 
 -- "others change nothing"
 unfoldable pub tracked : ℕ → Message → ℕ
-tracked active m = cond (setsActive m) (toldAddress m) (cond (clearsActive active m) CEC-PHYS-ADDR-INVALID active)
+tracked active m = cond (setsActive m) (namedAddress m) (cond (clearsActive active m) CEC-PHYS-ADDR-INVALID active)
 
 -- "hears every accepted incoming message while configured"
-abbrev pub activeAfter : State → Message → ℕ
-activeAfter s m = cond (isConfigured s) (tracked (s .active) m) (s .active)
+abbrev pub activeAfterMessage : State → Message → ℕ
+activeAfterMessage s m = cond (isConfigured s) (tracked (s .active) m) (s .active)
 
 -- a message from the wire: document 01's six steps, and the tracker
 unfoldable pub doMessage : State → ℕ → List ℕ → Outcome
 doMessage s n bytes =
     let m = message n bytes in
-    unless (incomingRefusal n) s (finish Answer.done (withActive (heard s m) (activeAfter s m)))
+    unless (incomingRefusal n) s (finish Answer.done (withActive (heard s m) (activeAfterMessage s m)))
 
 -- "One call gives the active address, 0xFFFF for none."
 abbrev pub doActiveAddress : State → Outcome
 doActiveAddress s = finish (Answer.address (s .active)) s
 
 -- the active address after any call: an accepted message is heard, unconfigure clears it, and no other call moves it
-abbrev pub activeThen : State → Call → ℕ
-activeThen s (callOpen privileged) = s .active
-activeThen s (callClose h) = s .active
-activeThen s (callMode h mode) = s .active
-activeThen s (callTransmit h r) = s .active
-activeThen s (callReceive h) = s .active
-activeThen s callBusStart = s .active
-activeThen s (callBusResult status counts) = s .active
-activeThen s (callMessage n bytes) = cond (eqb (incomingRefusal n) 0) (activeAfter s (message n bytes)) (s .active)
-activeThen s (callTime ms) = s .active
-activeThen s (callConfigure x) = s .active
-activeThen s callUnconfigure = CEC-PHYS-ADDR-INVALID
-activeThen s (callListing rows) = s .active
-activeThen s (callLookup a) = s .active
-activeThen s callActiveAddress = s .active
+abbrev pub activeAfterCall : State → Call → ℕ
+activeAfterCall s (callOpen privileged) = s .active
+activeAfterCall s (callClose h) = s .active
+activeAfterCall s (callMode h mode) = s .active
+activeAfterCall s (callTransmit h r) = s .active
+activeAfterCall s (callReceive h) = s .active
+activeAfterCall s callBusStart = s .active
+activeAfterCall s (callBusResult status counts) = s .active
+activeAfterCall s (callMessage n bytes) = cond (eqb (incomingRefusal n) 0) (activeAfterMessage s (message n bytes)) (s .active)
+activeAfterCall s (callTime ms) = s .active
+activeAfterCall s (callConfigure x) = s .active
+activeAfterCall s callUnconfigure = CEC-PHYS-ADDR-INVALID
+activeAfterCall s (callListing rows) = s .active
+activeAfterCall s (callLookup a) = s .active
+activeAfterCall s callActiveAddress = s .active
 
 -- an active address is well formed, and an unconfigured adapter has none
 pub record Tracks (s : State) : Type 0 where

@@ -1,6 +1,6 @@
 // The routing tracker: the active address after a message from the wire.
 ghost use mathlib.Core.Path.{_≡_};
-ghost use Rattle.rules.specs.Tracker.{isOf, tells, toldAddress, setsActive, clearsActive, tracked};
+ghost use Rattle.rules.specs.Tracker.{isOf, namesActive, namedAddress, setsActive, clearsActive, tracked};
 use constants::CEC_LOG_ADDR_BROADCAST;
 use constants::CEC_MSG_ACTIVE_SOURCE;
 use constants::CEC_MSG_INACTIVE_SOURCE;
@@ -16,9 +16,9 @@ fn is_of(message: Message, opcode: u8, length: u8) -> bool
     (message.opcode() == opcode) & (message.length() == length)
 }
 
-// Whether a message tells which address is active now.
-fn tells(message: Message) -> bool
-    ensures { λ r. ⌜ r ≡ tells message ⌝ }
+// Whether a message names the address that is active now.
+fn names_active(message: Message) -> bool
+    ensures { λ r. ⌜ r ≡ namesActive message ⌝ }
 {
     is_of(message, CEC_MSG_ACTIVE_SOURCE, 4)
         | is_of(message, CEC_MSG_ROUTING_CHANGE, 6)
@@ -26,8 +26,8 @@ fn tells(message: Message) -> bool
 }
 
 // The second address of a routing change, else the first.
-fn told_address(message: Message) -> u16
-    ensures { λ r. ⌜ r ≡ toldAddress message ⌝ }
+fn named_address(message: Message) -> u16
+    ensures { λ r. ⌜ r ≡ namedAddress message ⌝ }
 {
     if message.opcode() == CEC_MSG_ROUTING_CHANGE {
         message.second_address()
@@ -39,9 +39,9 @@ fn told_address(message: Message) -> u16
 fn sets_active(message: Message) -> bool
     ensures { λ r. ⌜ r ≡ setsActive message ⌝ }
 {
-    tells(message)
+    names_active(message)
         & (message.destination() == CEC_LOG_ADDR_BROADCAST)
-        & is_well_formed(told_address(message))
+        & is_well_formed(named_address(message))
 }
 
 fn clears_active(active: u16, message: Message) -> bool
@@ -55,7 +55,7 @@ pub fn tracked(active: u16, message: Message) -> u16
     ensures { λ r. ⌜ r ≡ tracked active message ⌝ }
 {
     if sets_active(message) {
-        return told_address(message);
+        return named_address(message);
     }
     if clears_active(active, message) {
         CEC_PHYS_ADDR_INVALID

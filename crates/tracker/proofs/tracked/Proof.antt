@@ -8,12 +8,12 @@ use Rattle.tracker.proofs.tracked.Tie as tie
 sets-active-requires : tie.Need-sets-active-requires
 sets-active-requires c κs = search needs
 
-told-address-requires : tie.Need-told-address-requires
-told-address-requires c κs = search needs
+named-address-requires : tie.Need-named-address-requires
+named-address-requires c κs = search needs
 
 returns : tie.Need-returns
 unfolding tracked
-returns c = rw (sym (c .before .before .sets-active .ensures) ∙ c .before .if1 .taken) (c .told-address .ensures)
+returns c = rw (sym (c .before .before .sets-active .ensures) ∙ c .before .if1 .taken) (c .named-address .ensures)
 
 clears-active-requires : tie.Need-clears-active-requires
 clears-active-requires c κs = search needs
@@ -31,7 +31,7 @@ tracked-spec =
     tie.close
     (tie.spec
     sets-active-requires
-    told-address-requires
+    named-address-requires
     returns
     clears-active-requires
     returns-2

@@ -1,9 +1,9 @@
--- `tracker::told_address` meets its contract. Assumes nothing.
+-- `tracker::named_address` meets its contract. Assumes nothing.
 use mathlib.Core.Path.{sym, _∙_}
 use borrow.Author.Needs.{needs}
 use borrow.Author.Tests.{eq-eqb, ne-eqb}
-use Rattle.tracker.proofs.told_address.Statement.{statement}
-use Rattle.tracker.proofs.told_address.Tie as tie
+use Rattle.tracker.proofs.named_address.Statement.{statement}
+use Rattle.tracker.proofs.named_address.Tie as tie
 
 opcode-requires : tie.Need-opcode-requires
 opcode-requires c κs = search needs
@@ -20,7 +20,7 @@ returns c = rw (eq-eqb _ _ (sym (c .before .before .opcode .ensures) ∙ c .befo
 returns-2 : tie.Need-returns-2
 returns-2 c = rw (ne-eqb _ _ (λ z. c .before .if1 .left (c .before .before .opcode .ensures ∙ z))) (c .first-address .ensures)
 
-pub told-address-spec : {M : Type 1} → statement M
-told-address-spec =
+pub named-address-spec : {M : Type 1} → statement M
+named-address-spec =
     tie.close
     (tie.spec opcode-requires second-address-requires first-address-requires returns returns-2)

@@ -1,7 +1,7 @@
--- `tracker::tells` meets its contract. Assumes nothing.
+-- `tracker::names_active` meets its contract. Assumes nothing.
 use borrow.Author.Needs.{needs}
-use Rattle.tracker.proofs.tells.Statement.{statement}
-use Rattle.tracker.proofs.tells.Tie as tie
+use Rattle.tracker.proofs.names_active.Statement.{statement}
+use Rattle.tracker.proofs.names_active.Tie as tie
 
 is-of-requires : tie.Need-is-of-requires
 is-of-requires c κs = search needs
@@ -15,5 +15,5 @@ is-of-requires-3 c κs = search needs
 returns : tie.Need-returns
 returns c = rw (c .before .before .is-of .ensures, c .before .is-of2 .ensures, c .is-of3 .ensures)
 
-pub tells-spec : {M : Type 1} → statement M
-tells-spec = tie.close (tie.spec is-of-requires is-of-requires-2 is-of-requires-3 returns)
+pub names-active-spec : {M : Type 1} → statement M
+names-active-spec = tie.close (tie.spec is-of-requires is-of-requires-2 is-of-requires-3 returns)
