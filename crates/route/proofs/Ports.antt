@@ -12,16 +12,8 @@ use Rattle.route.specs.Address.{isWellFormed, depth, parent, up, IsAnces
 use Rattle.route.specs.Route.{port, child, IsPort}
 use Rattle.route.proofs.Digits.{parent-keeps, digit-depth, is-child}
 use Rattle.route.proofs.Path.{on-path-ancestor, ancestor-on-path}
-use Rattle.route.proofs.Tree.{by-depth, depth-le, parent-depth, ancestor-less, ancestor-self, ancestor-parent}
-use Rattle.route.proofs.WellFormed.{IsFull, well-formed-full}
-
--- a parent is no larger
-parent-le : (a : ℕ) → parent a ≤ a
-parent-le a = by-depth (λ _ p. p ≤ a) a (omega arith)
-
--- a parent has its digits up to its depth too
-parent-full : (a : ℕ) → IsFull a → IsFull (parent a)
-parent-full a f i l = let m : suc i < depth a = omega (arith, parent-depth a) in rw (parent-keeps i a m) (f i (omega arith))
+use Rattle.route.proofs.Tree.{depth-le, parent-depth, ancestor-less, ancestor-self, ancestor-parent}
+use Rattle.route.proofs.WellFormed.{IsFull, well-formed-full, parent-le, parent-full}
 
 -- with no zero before the last digit, a parent is less deep by one
 parent-deep : (a : ℕ) → IsFull a → depth (parent a) ≡ depth a - 1

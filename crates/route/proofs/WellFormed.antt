@@ -6,12 +6,12 @@ use mathlib.Core.List.{List, [], _∷_}
 use mathlib.Core.Path.{_≡_, refl, sym, ap, _∙_}
 use native.Mathlib.Omega.{arith}
 use lib.Dec.{eqb}
-use borrow.Author.Tests.{eqb-true, eqb-false}
+use borrow.Author.Tests.{eqb-true, eqb-false, ne-eqb, not-true}
 use Rattle.constants.specs.Kernel.{CEC-PHYS-ADDR-INVALID}
-use Rattle.lists.specs.Tests.{split, clash, and-true, cond-same}
-use Rattle.route.specs.Address.{areZero, zerosLast, isWellFormed, depth, weightAt, digitAt}
-use Rattle.route.proofs.Digits.{is-child}
-use Rattle.route.proofs.Tree.{depth-le}
+use Rattle.lists.specs.Tests.{split, both, clash, and-true, or-true, cond-same}
+use Rattle.route.specs.Address.{digits, areZero, zerosLast, isWellFormed, depth, parent, up, IsAncestor, weightAt, digitAt}
+use Rattle.route.proofs.Digits.{parent-keeps, digit-depth, is-child}
+use Rattle.route.proofs.Tree.{by-depth, depth-le, parent-depth}
 
 -- a digit may follow another: it is 0, or the other is not
 abbrev mayFollow : ℕ → ℕ → Bool
@@ -86,3 +86,42 @@ well-formed-full a l w i d = back (depth a - suc i) i (omega arith)
     back : (n i : ℕ) → i + suc n ≡ depth a → 1 ≤ digitAt i a
     back zero i e = let last : depth a - 1 ≡ i = omega arith in rw last at (is-child a l (omega arith) .least)
     back (suc n) i e = omega (arith, digits-follow a l w i (omega (arith, depth-le a)), back n (suc i) (omega arith))
+
+-- a parent is no larger
+pub parent-le : (a : ℕ) → parent a ≤ a
+parent-le a = by-depth (λ _ p. p ≤ a) a (omega arith)
+
+-- a parent has its digits up to its depth too
+pub parent-full : (a : ℕ) → IsFull a → IsFull (parent a)
+parent-full a f i l = let m : suc i < depth a = omega (arith, parent-depth a) in rw (parent-keeps i a m) (f i (omega arith))
+
+-- where each digit before the depth is there, each may follow the one before it
+full-follows : (a : ℕ) → IsFull a → (i : ℕ) → i < 3 → mayFollow (digitAt i a) (digitAt (suc i) a) ≡ true
+full-follows a f i l =
+    split (eqb (digitAt (suc i) a) 0)
+    (λ e. rw e (or-true (not (eqb (digitAt i a) 0))))
+    (λ e.
+    let d = digit-depth (suc i) a (omega arith) (omega (arith, eqb-false (digitAt (suc i) a) 0 e)) in
+    rw (ne-eqb (digitAt i a) 0 (λ z. omega (arith, f i (omega arith)))))
+
+-- so that the address is well formed
+full-well-formed : (a : ℕ) → a < CEC-PHYS-ADDR-INVALID → IsFull a → isWellFormed a ≡ true
+unfolding weightAt
+full-well-formed a l f =
+    let first : a / 4096 % 16 ≡ a / 4096 = omega arith in
+    let last : a / 1 % 16 ≡ a % 16 = omega arith in
+    let second = rw first at (full-follows a f 0 (omega arith)) in
+    let fourth = rw last at (full-follows a f 2 (omega arith)) in
+    sym (well-formed-tests a) ∙ rw (second, full-follows a f 1 (omega arith), fourth, ne-eqb a CEC-PHYS-ADDR-INVALID (λ z. omega arith))
+
+-- going up leads to well-formed addresses only
+up-well-formed : (n a : ℕ) → a < CEC-PHYS-ADDR-INVALID → IsFull a → isWellFormed (up n a) ≡ true
+up-well-formed zero a l f = full-well-formed a l f
+up-well-formed (suc n) a l f = up-well-formed n (parent a) (omega (arith, parent-le a)) (parent-full a f)
+
+-- each ancestor of a well-formed address is well formed
+pub ancestor-well-formed : (x a : ℕ) → a < 65536 → isWellFormed a ≡ true → IsAncestor x a → isWellFormed x ≡ true
+unfolding isWellFormed
+ancestor-well-formed x a l w p =
+    let other = not-true (eqb a CEC-PHYS-ADDR-INVALID) (both (zerosLast (digits a)) (not (eqb a CEC-PHYS-ADDR-INVALID)) w .1) in
+    rw (p .1) (up-well-formed (p .0) a (omega (arith, eqb-false a CEC-PHYS-ADDR-INVALID other)) (well-formed-full a l w))
