@@ -9,7 +9,7 @@ TX_STATUS_OK = 0x01
 
 
 class Adapter(Structure):
-    _fields_ = [("opaque", c_uint64 * (5472 // 8))]
+    _fields_ = [("opaque", c_uint64 * (5920 // 8))]
 
 
 class Message(Structure):

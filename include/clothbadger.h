@@ -115,7 +115,7 @@ extern "C" {
  * An adapter, opaque: copy it, but change it by the calls alone. The messages of all programs are in it, read ones too: show it
  * to none of them.
  */
-#define CLOTHBADGER_ADAPTER_SIZE 5472
+#define CLOTHBADGER_ADAPTER_SIZE 5920
 
 struct cec_adapter {
     uint64_t opaque[CLOTHBADGER_ADAPTER_SIZE / 8];
@@ -128,13 +128,13 @@ CLOTHBADGER_STATIC_ASSERT(CLOTHBADGER_ALIGNOF(struct cec_adapter) == 8, "alignme
  * For cec_new(), where a fresh adapter is not 0: the owner in each slot of the queue and on the wire (nobody), the capabilities,
  * the physical address, the noted ones and the active one (invalid).
  */
-#define CLOTHBADGER_QUEUE_SLOTS       18
-#define CLOTHBADGER_QUEUE_OWNER(slot) (3652 + 32 * (slot))
-#define CLOTHBADGER_WIRE_OWNER        4240
-#define CLOTHBADGER_CAPABILITIES      5400
-#define CLOTHBADGER_PHYSICAL_ADDRESS  5408
-#define CLOTHBADGER_NOTED             5440
-#define CLOTHBADGER_ACTIVE_ADDRESS    5470
+#define CLOTHBADGER_QUEUE_SLOTS       32
+#define CLOTHBADGER_QUEUE_OWNER(slot) (280 + 32 * (slot))
+#define CLOTHBADGER_WIRE_OWNER        240
+#define CLOTHBADGER_CAPABILITIES      64
+#define CLOTHBADGER_PHYSICAL_ADDRESS  72
+#define CLOTHBADGER_NOTED             104
+#define CLOTHBADGER_ACTIVE_ADDRESS    134
 
 /*
  * A message: the first byte is initiator and destination, the second the opcode.

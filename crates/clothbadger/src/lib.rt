@@ -39,7 +39,7 @@ pub extern "C" fn cec_adapter_new(can_transmit: bool, can_monitor_all: bool) -> 
 pub extern "C" fn cec_adapter_size() -> usize
     ensures { λ r. ⌜ r ≡ size adapter-laws.mir ⌝ }
 {
-    5472
+    5920
 }
 
 #[no_mangle]

@@ -21,23 +21,23 @@ LongParts p = Long (p .entries) (p .counts)
 
 -- owning the parts tells so
 pub parts-long : (p : Parts) (vs : List Val) → Is the.the-row p vs → LongParts p
-parts-long p vs q = record { entries = unmapped _ (p .entries) 128 (q .1 .1 .0 .1 .0 .1); counts = unmapped _ (p .counts) 8 (q .1 .1 .1 .0 .1 .0 .1) }
+parts-long p vs q = record { entries = unmapped _ (p .entries) 128 (q .1 .1 .1 .1 .1 .1 .1 .1 .1 .1 .1 .1 .1 .0 .1 .0 .1); counts = unmapped _ (p .counts) 8 (q .1 .1 .0 .1 .0 .1) }
 
 -- the parts with other arrays of the inboxes
 abbrev pub withArrays : Parts → List Entry → List ℕ → Parts
 withArrays p es cs = record {
-  entries = es;
   counts = cs;
-  queue = p .queue;
-  wire = p .wire;
-  waits = p .waits;
-  handles = p .handles;
   «can_transmit» = p .«can_transmit»;
   «can_monitor_all» = p .«can_monitor_all»;
   last = p .last;
   settings = p .settings;
   noted = p .noted;
   active = p .active;
+  handles = p .handles;
+  wire = p .wire;
+  queue = p .queue;
+  waits = p .waits;
+  entries = es;
 }
 
 -- q is p with an entry delivered

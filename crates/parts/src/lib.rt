@@ -19,21 +19,22 @@ use settings::Settings;
 use waits::Waits;
 use wire::Wire;
 
-// The inboxes lie in `entries`, handle h's in the 16 places from 16 * h on, with their `counts` beside them: arrays that lie in the struct itself are written in place.
+// The inboxes lie in `entries`, handle h's in the 16 places from 16 * h on, with their `counts` apart: arrays that lie in the struct itself are written in place. The entries stand last: a store
+// at a place that is worked out cannot reach what stands before them, and the compiler copies less.
 #[repr(C)]
 pub struct Parts {
-    pub entries: [Entry; 128],
     pub counts: [usize; 8],
-    pub queue: Queue,
-    pub wire: Wire,
-    pub waits: Waits,
-    pub handles: Handles,
     pub can_transmit: bool,
     pub can_monitor_all: bool,
     pub last: u32,
     pub settings: Settings,
     pub noted: [u16; 15],
     pub active: u16,
+    pub handles: Handles,
+    pub wire: Wire,
+    pub queue: Queue,
+    pub waits: Waits,
+    pub entries: [Entry; 128],
 }
 
 // The parts after a call that gives nothing more, and its errno, 0 for success.
@@ -82,18 +83,18 @@ impl Parts {
         let entries = inboxes.entries;
         let counts = inboxes.counts;
         Parts {
-            entries: entries,
             counts: counts,
-            queue: Queue::empty(),
-            wire: Wire::idle(),
-            waits: Waits::empty(),
-            handles: Handles::all_closed(),
             can_transmit: can_transmit,
             can_monitor_all: can_monitor_all,
             last: 0,
             settings: no_settings(),
             noted: none_noted(),
             active: CEC_PHYS_ADDR_INVALID,
+            handles: Handles::all_closed(),
+            wire: Wire::idle(),
+            queue: Queue::empty(),
+            waits: Waits::empty(),
+            entries: entries,
         }
     }
 

@@ -1,10 +1,33 @@
--- The transmit queue: a list of at most 18 transmissions, first in, first out (document 01, "The adapter's parts").
+-- The transmit queue: a list of at most 18 transmissions, first in, first out (document 01, "The adapter's parts"), in 32 slots with head and tail positions that run on and wrap (document 02, W-206).
 -- Assumes nothing.
-use mathlib.Core.List.{List}
-use lib.ListN.{take}
+use Prim.Native.Nat.{ℕ, zero, suc, _+_, _-_, _%_, min}
+use mathlib.Core.List.{List, [], _∷_}
+use lib.ListN.{getD}
 use Rattle.queue.specs.declared.Queue.{Queue}
+use Rattle.transmission.specs.Transmission.{noTransmission}
 use Rattle.transmission.specs.declared.Transmission.{Transmission}
 
--- the transmissions of a queue, the head first; a count past 18 counts as 18
+-- the position n after position p: 0 comes after 4,294,967,295
+abbrev pub onward : ℕ → ℕ → ℕ
+onward p n = (p + n) % 4294967296
+
+-- "place is position % 32"
+abbrev pub place : ℕ → ℕ
+place p = p % 32
+
+-- "length is their wrapped difference"
+abbrev pub distance : ℕ → ℕ → ℕ
+distance head tail = (tail + (4294967296 - head % 4294967296)) % 4294967296
+
+-- how many are queued: 18 at most, so that a difference past it, to which no call leads, counts as 18
+abbrev pub lengthOf : Queue → ℕ
+lengthOf q = min (distance (q .head) (q .tail)) 18
+
+-- the transmissions at n positions, from p on
+abbrev pub queuedFrom : ℕ → ℕ → List Transmission → List Transmission
+queuedFrom p zero slots = []
+queuedFrom p (suc n) slots = getD slots (place p) noTransmission ∷ queuedFrom (onward p 1) n slots
+
+-- the transmissions of a queue, the head first
 abbrev pub queueOf : Queue → List Transmission
-queueOf q = take (q .count) (q .slots)
+queueOf q = queuedFrom (q .head) (lengthOf q) (q .slots)

@@ -6,84 +6,82 @@ ghost use lib.ListN.{length, getD, drop};
 ghost use Rattle.lists.specs.Sums.{any};
 ghost use Rattle.lists.specs.Vector.{put};
 ghost use Rattle.queue.specs.Queue.{queueOf};
+ghost use Rattle.queue.specs.Ring.{ringAt};
 ghost use Rattle.transmission.specs.Transmission.{noTransmission, headOf, owedBy, numbered, orphaned};
+
+mod ring;
+
 use transmission::Owed;
 use transmission::Transmission;
 
+// A ring of 32 slots: head and tail are positions, which run on and wrap, and the slot of a position is that number modulo 32.
 #[repr(C)]
 pub struct Queue {
-    slots: [Transmission; 18],
-    count: usize,
+    head: u32,
+    tail: u32,
+    slots: [Transmission; 32],
 }
 
 impl Queue {
     pub fn empty() -> Queue
         ensures { λ r. ⌜ queueOf r ≡ [] ⌝ }
     {
+        Queue::empty_at(0)
+    }
+
+    // An empty queue whose head is at any position.
+    pub fn empty_at(position: u32) -> Queue
+        ensures { λ r. ⌜ r ≡ ringAt position ⌝ }
+    {
         Queue {
-            slots: [Transmission::none(); 18],
-            count: 0,
+            head: position,
+            tail: position,
+            slots: [Transmission::none(); 32],
         }
     }
 
-    // What is past the count is not read, so the slots stay.
-    pub fn emptied(mut self) -> Queue
+    pub fn emptied(self) -> Queue
         ensures { λ r. ⌜ queueOf r ≡ [] ⌝ }
     {
-        self.count = 0;
-        self
+        ring::empty(self)
     }
 
     pub fn count(self) -> usize
         ensures { λ r. ⌜ r ≡ length (queueOf self) ⌝ }
         ensures { λ r. ⌜ r ≤ 18 ⌝ }
     {
-        lists::at_most(self.count, 18)
+        ring::length(self) as usize
     }
 
     // One more at the end; a full queue stays.
-    pub fn put(mut self, transmission: Transmission) -> Queue
+    pub fn put(self, transmission: Transmission) -> Queue
         ensures { λ r. ⌜ queueOf r ≡ put 18 (queueOf self) transmission ⌝ }
     {
-        let n = self.count;
-        if n < 18 {
-            self.slots[n] = transmission;
-            self.count = n + 1;
-        }
-        self
+        ring::put(self, transmission)
     }
 
     // The head, or none.
     pub fn head(self) -> Transmission
         ensures { λ r. ⌜ r ≡ headOf (queueOf self) ⌝ }
     {
-        if self.count == 0 {
-            return Transmission::none();
-        }
-        self.slots[0]
+        self.at(0)
     }
 
-    // The transmission at a place, or none.
+    // The one that i others are before, or none.
     pub fn at(self, i: usize) -> Transmission
         ensures { λ r. ⌜ r ≡ getD (queueOf self) i noTransmission ⌝ }
     {
         if self.count() <= i {
             return Transmission::none();
         }
-        self.slots[i]
+        let at = ring::place(std::num::wrapping_add_u32(self.head, i as u32));
+        self.slots[at]
     }
 
-    pub fn without_head(mut self) -> Queue
+    pub fn without_head(self) -> Queue
         ensures { λ r. ⌜ queueOf r ≡ drop 1 (queueOf self) ⌝ }
     {
-        let n = self.count();
-        let mut i = 0;
-        while i + 1 < n {
-            self.slots[i] = self.slots[i + 1];
-            i += 1;
-        }
-        self.count = i;
-        self
+        ring::take(self)
     }
 
     pub fn owed(self, handle: u8) -> Owed
@@ -91,12 +89,14 @@ impl Queue {
         ensures { λ r. ⌜ r .room ≤ 36 ⌝ }
         ensures { λ r. ⌜ r .replies ≤ 18 ⌝ }
     {
-        let n = self.count();
+        let head = self.head;
+        let n = ring::length(self);
         let mut room = 0;
         let mut replies = 0;
         let mut i = 0;
         while i < n {
-            let one = self.slots[i].owed(handle);
+            let at = ring::place(std::num::wrapping_add_u32(head, i));
+            let one = self.slots[at].owed(handle);
             room += one.room;
             replies += one.replies;
             i += 1;
@@ -110,10 +110,12 @@ impl Queue {
     pub fn has_sequence(self, sequence: u32) -> bool
         ensures { λ r. ⌜ r ≡ any (numbered sequence) (queueOf self) ⌝ }
     {
-        let n = self.count();
+        let head = self.head;
+        let n = ring::length(self);
         let mut i = 0;
         while i < n {
-            if self.slots[i].sequence == sequence {
+            let at = ring::place(std::num::wrapping_add_u32(head, i));
+            if self.slots[at].sequence == sequence {
                 return true;
             }
             i += 1;
@@ -122,15 +124,9 @@ impl Queue {
     }
 
     // What a close of the handle leaves.
-    pub fn orphaned(mut self, handle: u8) -> Queue
+    pub fn orphaned(self, handle: u8) -> Queue
         ensures { λ r. ⌜ queueOf r ≡ map (orphaned handle) (queueOf self) ⌝ }
     {
-        let n = self.count();
-        let mut i = 0;
-        while i < n {
-            self.slots[i] = self.slots[i].orphaned(handle);
-            i += 1;
-        }
-        self
+        ring::close(self, handle)
     }
 }

@@ -7,42 +7,42 @@ use Rattle.parts.proofs.Parts.fresh.Tie as tie
 empty-requires : tie.Need-empty-requires
 empty-requires c κs = search needs
 
-empty-requires-2 : tie.Need-empty-requires-2
-empty-requires-2 c κs = search needs
-
-idle-requires : tie.Need-idle-requires
-idle-requires c κs = search needs
-
-empty-requires-3 : tie.Need-empty-requires-3
-empty-requires-3 c κs = search needs
-
-all-closed-requires : tie.Need-all-closed-requires
-all-closed-requires c κs = search needs
-
 no-settings-requires : tie.Need-no-settings-requires
 no-settings-requires c κs = search needs
 
 none-noted-requires : tie.Need-none-noted-requires
 none-noted-requires c κs = search needs
 
+all-closed-requires : tie.Need-all-closed-requires
+all-closed-requires c κs = search needs
+
+idle-requires : tie.Need-idle-requires
+idle-requires c κs = search needs
+
+empty-requires-2 : tie.Need-empty-requires-2
+empty-requires-2 c κs = search needs
+
+empty-requires-3 : tie.Need-empty-requires-3
+empty-requires-3 c κs = search needs
+
 returns : tie.Need-returns
 unfolding fresh
 returns c =
-    let waits = c .before .before .before in
-    let queue = waits .before .before in
-    let inboxes = queue .before .before .before in
-    rw (inboxes .empty .ensures, queue .empty2 .ensures, waits .before .idle .ensures, waits .empty3 .ensures)
-    (rw (c .before .before .all-closed .ensures, c .before .no-settings .ensures, c .none-noted .ensures))
+    let handles = c .before .before .before in
+    let settings = handles .before .before in
+    let inboxes = settings .before .before .before in
+    rw (inboxes .empty .ensures, settings .no-settings .ensures, handles .before .none-noted .ensures, handles .all-closed .ensures)
+    (rw (c .before .before .idle .ensures, c .before .empty2 .ensures, c .empty3 .ensures))
 
 pub fresh-spec : {M : Type 1} → statement M
 fresh-spec =
     tie.close
     (tie.spec
     empty-requires
-    empty-requires-2
-    idle-requires
-    empty-requires-3
-    all-closed-requires
     no-settings-requires
     none-noted-requires
+    all-closed-requires
+    idle-requires
+    empty-requires-2
+    empty-requires-3
     returns)

@@ -3,26 +3,33 @@ use Prim.Native.Nat.{_≤_, _-_}
 use mathlib.Core.Bool.{false}
 use mathlib.Core.Path.{_≡_, refl, sym}
 use native.Mathlib.Omega.{arith}
-use lib.ListN.{take}
 use borrow.Author.Needs.{needs}
 use borrow.Author.Tests.{eq-eqb, ne-eqb}
 use Rattle.lists.specs.Sums.{any}
-use Rattle.lists.specs.Vector.{any-found, any-passed, any-missed}
+use Rattle.queue.specs.Queue.{lengthOf, queuedFrom}
 use Rattle.transmission.specs.Transmission.{numbered}
+use Rattle.queue.proofs.Queued.{slot-read, queued-passed, queued-found}
+use Rattle.queue.proofs.Slots.{queue-long}
 use Rattle.queue.proofs.Queue.has_sequence.Statement.{statement}
 use Rattle.queue.proofs.Queue.has_sequence.Tie as tie
 
 abbrev Inv-loop : tie.InvT-loop
-Inv-loop number self n i₀ i = (i ≤ n) × (any (numbered number) (take i (self .slots)) ≡ false)
+Inv-loop sequence self head n i₀ i = (i ≤ n) × (any (numbered sequence) (queuedFrom (self .head) i (self .slots)) ≡ false)
 
 abbrev μ-loop : tie.MeasureT-loop
-μ-loop number self n i₀ i = n - i
+μ-loop sequence self head n i₀ i = n - i
 
-count-requires : tie.Need-count-requires Inv-loop μ-loop
-count-requires c κs = search needs
+length-requires : tie.Need-length-requires Inv-loop μ-loop
+length-requires c κs = search needs
 
 loop-holds : tie.Need-loop-holds Inv-loop μ-loop
 loop-holds c = (omega arith, refl)
+
+wrapping-add-u32-requires : tie.Need-wrapping-add-u32-requires Inv-loop μ-loop
+wrapping-add-u32-requires c κs = search needs
+
+place-requires : tie.Need-place-requires Inv-loop μ-loop
+place-requires c κs = search needs
 
 mul-if1 : tie.Need-mul-if1 Inv-loop μ-loop
 mul-if1 c = search needs
@@ -32,9 +39,14 @@ element-copy-out-if1 c = search needs
 
 returns : tie.Need-returns Inv-loop μ-loop
 returns c =
-    let a = c .before .before .before .before .args in
-    let e = c .before .before .before .count .ensures .0 in
-    sym (any-found (a .t1 .slots) (a .t1 .count) _ e (numbered (a .sequence)) (c .before .before .loop .i) _ (omega arith) (eq-eqb _ _ (c .if1 .taken)))
+    let places = c .before in
+    let turn = places .before .before .before in
+    let start = turn .before .before in
+    let l = turn .loop in
+    let q = start .args .t1 in
+    let e = start .args .sequence in
+    let read = rw (places .place .ensures .0, places .before .wrapping-add-u32 .ensures, slot-read (q .slots) (q .head) (l .i) _ (queue-long q _ (start .good .0))) at (c .if1 .taken) in
+    sym (queued-found (numbered e) (q .head) (lengthOf q) (l .i) (q .slots) (omega (arith, turn .before .length .ensures .0)) (eq-eqb _ _ read))
 
 add-i : tie.Need-add-i Inv-loop μ-loop
 add-i c = search needs
@@ -44,16 +56,21 @@ loop-less c = search needs
 
 loop-again : tie.Need-loop-again Inv-loop μ-loop
 loop-again c =
-    let a = c .before .before .before .before .args in
-    let e = c .before .before .before .count .ensures .0 in
-    let l = c .before .before .loop in
-    (omega arith, any-passed (a .t1 .slots) (a .t1 .count) _ e (numbered (a .sequence)) (l .i) _ (omega arith) (l .inv .1) (ne-eqb _ _ (c .if1 .left)))
+    let places = c .before in
+    let turn = places .before .before .before in
+    let start = turn .before .before in
+    let l = turn .loop in
+    let q = start .args .t1 in
+    let e = start .args .sequence in
+    let read = rw (places .place .ensures .0, places .before .wrapping-add-u32 .ensures, slot-read (q .slots) (q .head) (l .i) _ (queue-long q _ (start .good .0))) at (c .if1 .left) in
+    (omega arith, queued-passed (numbered e) (q .head) (l .i) (q .slots) (l .inv .1) (ne-eqb _ _ read))
 
 returns-2 : tie.Need-returns-2 Inv-loop μ-loop
 returns-2 c =
-    let a = c .before .before .before .args in
     let l = c .before .loop in
-    sym (any-missed (a .t1 .slots) (a .t1 .count) _ (c .before .before .count .ensures .0) (numbered (a .sequence)) (l .i) (omega arith) (l .inv .1))
+    let a = c .before .before .before .args in
+    let all : l .i ≡ lengthOf (a .t1) = omega (arith, c .before .before .length .ensures .0) in
+    sym (rw (← all) (l .inv .1))
 
 pub has-sequence-spec : {M : Type 1} → statement M
 has-sequence-spec =
@@ -61,8 +78,10 @@ has-sequence-spec =
     (tie.spec
     Inv-loop
     μ-loop
-    count-requires
+    length-requires
     loop-holds
+    wrapping-add-u32-requires
+    place-requires
     mul-if1
     element-copy-out-if1
     returns

@@ -1,34 +1,39 @@
 -- `queue::Queue::owed` meets its contract. Assumes nothing.
-use Prim.Native.Nat.{_<_, _≤_, _-_, _+_, _*_}
+use Prim.Native.Nat.{_≤_, _-_, _+_, _*_}
 use mathlib.Core.Path.{ap, ap₂, _≡_, refl, sym, _∙_}
 use native.Mathlib.Omega.{arith}
-use lib.ListN.{length, take}
 use borrow.Author.Needs.{needs}
-use Rattle.lists.specs.Elements.{take-taken}
-use Rattle.lists.specs.Sums.{sum, sum-next}
-use Rattle.queue.specs.Queue.{queueOf}
+use Rattle.lists.specs.Sums.{sum}
+use Rattle.queue.specs.Queue.{lengthOf, queuedFrom}
 use Rattle.transmission.specs.Transmission.{roomFor, replyFor}
 use Rattle.transmission.specs.declared.Owed.{Owed}
+use Rattle.queue.proofs.Queued.{slot-read, queued-sum}
 use Rattle.queue.proofs.Slots.{queue-long}
 use Rattle.queue.proofs.Queue.owed.Statement.{statement}
 use Rattle.queue.proofs.Queue.owed.Tie as tie
 
 abbrev Inv-loop : tie.InvT-loop
-Inv-loop handle self n room₀ replies₀ i₀ room replies i =
+Inv-loop handle self head n room₀ replies₀ i₀ room replies i =
     (i ≤ n)
-    × (room ≡ sum (roomFor handle) (take i (self .slots)))
-    × (replies ≡ sum (replyFor handle) (take i (self .slots)))
+    × (room ≡ sum (roomFor handle) (queuedFrom (self .head) i (self .slots)))
+    × (replies ≡ sum (replyFor handle) (queuedFrom (self .head) i (self .slots)))
     × (room ≤ 2 * i)
     × (replies ≤ i)
 
 abbrev μ-loop : tie.MeasureT-loop
-μ-loop handle self n room₀ replies₀ i₀ room replies i = n - i
+μ-loop handle self head n room₀ replies₀ i₀ room replies i = n - i
 
-count-requires : tie.Need-count-requires Inv-loop μ-loop
-count-requires c κs = search needs
+length-requires : tie.Need-length-requires Inv-loop μ-loop
+length-requires c κs = search needs
 
 loop-holds : tie.Need-loop-holds Inv-loop μ-loop
 loop-holds c = (omega arith, refl, refl, omega arith, omega arith)
+
+wrapping-add-u32-requires : tie.Need-wrapping-add-u32-requires Inv-loop μ-loop
+wrapping-add-u32-requires c κs = search needs
+
+place-requires : tie.Need-place-requires Inv-loop μ-loop
+place-requires c κs = search needs
 
 mul-owed : tie.Need-mul-owed Inv-loop μ-loop
 mul-owed c = search needs
@@ -53,13 +58,16 @@ loop-less c = search needs
 
 loop-again : tie.Need-loop-again Inv-loop μ-loop
 loop-again c =
-    let l = c .before .before .before .before .before .loop in
-    let a = c .before .before .before .before .before .before .before .args in
-    let o = c .before .before .owed .ensures in
-    let h : l .i < length (a .t1 .slots) = omega (arith, queue-long (a .t1) _ (c .before .before .before .before .before .before .before .good .0)) in (
+    let places = c .before .before .before .before in
+    let turn = places .before .before .before in
+    let start = turn .before .before in
+    let l = turn .loop in
+    let q = start .args .t1 in
+    let h = start .args .handle in
+    let read = rw (places .place .ensures .0, places .before .wrapping-add-u32 .ensures, slot-read (q .slots) (q .head) (l .i) _ (queue-long q _ (start .good .0))) at (c .before .before .owed .ensures .0) in (
       omega arith,
-      ap₂ _+_ (l .inv .1) (ap (λ (x : Owed). x .room) (o .0)) ∙ sym (sum-next (roomFor (a .handle)) (a .t1 .slots) (l .i) _ h),
-      ap₂ _+_ (l .inv .2) (ap (λ (x : Owed). x .replies) (o .0)) ∙ sym (sum-next (replyFor (a .handle)) (a .t1 .slots) (l .i) _ h),
+      ap₂ _+_ (l .inv .1) (ap (λ (x : Owed). x .room) read) ∙ sym (queued-sum (roomFor h) (q .head) (l .i) (q .slots)),
+      ap₂ _+_ (l .inv .2) (ap (λ (x : Owed). x .replies) read) ∙ sym (queued-sum (replyFor h) (q .head) (l .i) (q .slots)),
       omega arith,
       omega arith,
     )
@@ -67,10 +75,9 @@ loop-again c =
 returns : tie.Need-returns Inv-loop μ-loop
 returns c =
     let l = c .before .loop in
-    let q = c .before .before .before .args .t1 in
-    let e : l .i ≡ length (queueOf q) = omega (arith, c .before .before .count .ensures .0) in
-    let t = take-taken (q .count) (l .i) (q .slots) e in
-    (rw (l .inv .1, l .inv .2, t), (omega arith, omega arith))
+    let a = c .before .before .before .args in
+    let all : l .i ≡ lengthOf (a .t1) = omega (arith, c .before .before .length .ensures .0) in
+    (rw (l .inv .1, l .inv .2, all), (omega arith, omega arith))
 
 pub owed-spec : {M : Type 1} → statement M
 owed-spec =
@@ -78,8 +85,10 @@ owed-spec =
     (tie.spec
     Inv-loop
     μ-loop
-    count-requires
+    length-requires
     loop-holds
+    wrapping-add-u32-requires
+    place-requires
     mul-owed
     element-copy-out-owed
     owed-requires
