@@ -19,8 +19,8 @@ use settings::Settings;
 use waits::Waits;
 use wire::Wire;
 
-// The inboxes lie in `entries`, handle h's in the 16 places from 16 * h on, with their `counts` apart: arrays that lie in the struct itself are written in place. The entries stand last: a store
-// at a place that is worked out cannot reach what stands before them, and the compiler copies less.
+// The inboxes lie in `entries`, handle h's in the 16 places from 16 * h on, with their `counts` apart: arrays that lie in the struct itself are written in place.
+// The entries stand last: the compiler then sees that a store at a computed index leaves all other fields, and copies fewer of them.
 #[repr(C)]
 pub struct Parts {
     pub counts: [usize; 8],

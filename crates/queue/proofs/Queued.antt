@@ -1,25 +1,26 @@
 -- What is queued after each change of the ring.
 -- Assumes nothing.
 use Prim.Native.Nat.{ℕ, zero, suc, _+_, _-_, _≤_, _<_, min}
-use mathlib.Core.Bool.{Bool, true, false}
+use mathlib.Core.Bool.{Bool, true, false, _||_}
 use mathlib.Core.List.{List, [], _∷_, _++_, map}
 use mathlib.Core.Logic.{_≢_}
 use mathlib.Core.Path.{_≡_, refl, sym, ap, ap₂, _∙_}
 use native.Mathlib.Numerals.{add-one}
 use native.Mathlib.Omega.{arith}
 use lib.Dec.{eqb, ltb}
-use lib.ListN.{length, getD, set, drop, length-set}
+use lib.ListN.{length, getD, set, drop, length-set, List·getD-eq-default}
 use lib.Seq.{getD-set-same, getD-set-other}
-use borrow.Author.Tests.{ltb-true, eqb-true, eqb-false}
+use borrow.Author.Tests.{ltb-true, ltb-false, eqb-true, eqb-false}
 use Rattle.lists.specs.Elements.{map-append, getD-within}
+use Rattle.lists.specs.Pigeonhole.{upto}
 use Rattle.lists.specs.Sums.{sum, sum-append, any, any-append}
-use Rattle.lists.specs.Tests.{split, or-true}
+use Rattle.lists.specs.Tests.{split, or-true, or-false}
 use Rattle.lists.specs.Vector.{put}
 use Rattle.queue.proofs.Positions.{distance-none, distance-more, distance-onward, onward-next, place-here, place-tail, place-other}
 use Rattle.queue.specs.Queue.{onward, place, distance, lengthOf, queuedFrom, queueOf}
-use Rattle.queue.specs.Ring.{ringPut, ringTake, closedSlots, ringClose}
+use Rattle.queue.specs.Ring.{ringPut, ringTake, closedSlots, ringClose, slotOf, ringAt, ringOwed, numberedIn}
 use Rattle.queue.specs.declared.Queue.{Queue}
-use Rattle.transmission.specs.Transmission.{noTransmission, orphaned}
+use Rattle.transmission.specs.Transmission.{noTransmission, orphaned, roomFor, replyFor, numbered, owedBy}
 use Rattle.transmission.specs.declared.Transmission.{Transmission}
 
 -- the transmission at the position n after another
@@ -27,8 +28,8 @@ abbrev pub slotAt : List Transmission → ℕ → ℕ → Transmission
 slotAt l p n = getD l (place (onward p n)) noTransmission
 
 -- what the code reads there, whatever stands past an end
-pub slot-read : (l : List Transmission) (p n : ℕ) (d : Transmission) → length l ≡ 32 → getD l (place (onward p n)) d ≡ slotAt l p n
-slot-read l p n d long = getD-within l (place (onward p n)) d noTransmission (omega arith)
+pub place-read : (l : List Transmission) (p n : ℕ) (d : Transmission) → length l ≡ 32 → getD l (place (onward p n)) d ≡ slotAt l p n
+place-read l p n d long = getD-within l (place (onward p n)) d noTransmission (omega arith)
 
 length-queued : (p n : ℕ) (l : List Transmission) → length (queuedFrom p n l) ≡ n
 length-queued p zero l = refl
@@ -62,6 +63,32 @@ pub queued-found : (f : Transmission → Bool) (p n i : ℕ) (l : List Transmiss
 queued-found f p zero i l h e = absurd (omega arith)
 queued-found f p (suc n) zero l h e = rw (rw (place-here p) at e)
 queued-found f p (suc n) (suc i) l h e = rw (queued-found f (onward p 1) n i l (omega arith) (rw (← onward-next p i) at e)) (or-true (f (getD l (place p) noTransmission)))
+
+-- what the ring answers is what is asked of the list
+queued-upto : (f : Transmission → ℕ) (p n : ℕ) (l : List Transmission) → upto (λ i. f (slotAt l p i)) n ≡ sum f (queuedFrom p n l)
+queued-upto f p zero l = refl
+queued-upto f p (suc n) l =
+    omega (arith, queued-upto f p n l, ap (sum f) (queued-last p n l) ∙ sum-append f (queuedFrom p n l) (slotAt l p n ∷ []))
+
+pub at-ring : (q : Queue) (n : ℕ) → ringAt q n ≡ getD (queueOf q) n noTransmission
+at-ring q n =
+    split (ltb n (lengthOf q))
+    (λ e. rw e (sym (queued-at (q .head) (lengthOf q) n (q .slots) noTransmission (ltb-true n (lengthOf q) e))))
+    (λ e. rw e (sym (List·getD-eq-default (queueOf q) noTransmission {n = n} (omega (arith, length-queue q, ltb-false n (lengthOf q) e)))))
+
+pub owed-ring : (q : Queue) (h : ℕ) → ringOwed q h ≡ owedBy h (queueOf q)
+owed-ring q h = rw (queued-upto (roomFor h) (q .head) (lengthOf q) (q .slots), queued-upto (replyFor h) (q .head) (lengthOf q) (q .slots))
+
+numbered-ring : (q : Queue) (number n : ℕ) → numberedIn q number n ≡ any (numbered number) (queuedFrom (q .head) n (q .slots))
+numbered-ring q number zero = refl
+numbered-ring q number (suc n) =
+    let f = numbered number in
+    let x = slotOf q n in
+    let more = ap (any f) (queued-last (q .head) n (q .slots)) ∙ any-append f (queuedFrom (q .head) n (q .slots)) (x ∷ []) in
+    rw (numbered-ring q number n) (sym (more ∙ ap (λ (b : Bool). any f (queuedFrom (q .head) n (q .slots)) || b) (or-false (f x))))
+
+pub sequence-ring : (q : Queue) (number : ℕ) → numberedIn q number (lengthOf q) ≡ any (numbered number) (queueOf q)
+sequence-ring q number = numbered-ring q number (lengthOf q)
 
 -- a store at a later place
 slot-other : (p n m : ℕ) (l : List Transmission) (t : Transmission) → n < m → m < 32 → slotAt (set l (place (onward p m)) t) p n ≡ slotAt l p n
@@ -115,7 +142,7 @@ pub closed-next : (h p i : ℕ) (l : List Transmission) (d : Transmission) → l
     → set (closedSlots h p i l) (place (onward p i)) (orphaned h (getD (closedSlots h p i l) (place (onward p i)) d)) ≡ closedSlots h p (i + 1) l
 closed-next h p i l d long =
     let s = closedSlots h p i l in
-    ap (λ (t : Transmission). set s (place (onward p i)) (orphaned h t)) (slot-read s p i d (length-closed h p i l ∙ long))
+    ap (λ (t : Transmission). set s (place (onward p i)) (orphaned h t)) (place-read s p i d (length-closed h p i l ∙ long))
     ∙ ap (λ (n : ℕ). closedSlots h p n l) (sym (add-one i))
 
 closed-later : (h p n m : ℕ) (l : List Transmission) → n ≤ m → m < 32 → slotAt (closedSlots h p n l) p m ≡ slotAt l p m
@@ -128,7 +155,8 @@ queued-closed : (h p n : ℕ) (l : List Transmission) → length l ≡ 32 → n 
 queued-closed h p zero l long a = refl
 queued-closed h p (suc n) l long a =
     queued-set p n (closedSlots h p n l) (orphaned h (slotAt (closedSlots h p n l) p n)) (length-closed h p n l ∙ long) (omega arith)
-    ∙ rw (queued-closed h p n l long (omega arith), closed-later h p n n l (omega arith) (omega arith)) (sym (ap (map (orphaned h)) (queued-last p n l) ∙ map-append (orphaned h) (queuedFrom p n l) (slotAt l p n ∷ [])))
+    ∙ rw (queued-closed h p n l long (omega arith), closed-later h p n n l (omega arith) (omega arith))
+    (sym (ap (map (orphaned h)) (queued-last p n l) ∙ map-append (orphaned h) (queuedFrom p n l) (slotAt l p n ∷ [])))
 
 pub close-ring : (q : Queue) (h : ℕ) → length (q .slots) ≡ 32 → queueOf (ringClose q h) ≡ map (orphaned h) (queueOf q)
 close-ring q h long = queued-closed h (q .head) (lengthOf q) (q .slots) long (omega arith)

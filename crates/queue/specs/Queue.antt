@@ -1,4 +1,5 @@
--- The transmit queue: a list of at most 18 transmissions, first in, first out (document 01, "The adapter's parts"), in 32 slots with head and tail positions that run on and wrap (document 02, W-206).
+-- The transmit queue: a list of at most 18 transmissions, first in, first out (document 01, "The adapter's parts"), in 32 slots, with
+-- head and tail positions that run on and wrap (document 02, W-206).
 -- Assumes nothing.
 use Prim.Native.Nat.{ℕ, zero, suc, _+_, _-_, _%_, min}
 use mathlib.Core.List.{List, [], _∷_}
@@ -15,13 +16,16 @@ onward p n = (p + n) % 4294967296
 abbrev pub place : ℕ → ℕ
 place p = p % 32
 
--- "length is their wrapped difference"
+-- "length is their wrapped difference"; for positions past 2^32 too, so that no law needs a bound
 abbrev pub distance : ℕ → ℕ → ℕ
 distance head tail = (tail + (4294967296 - head % 4294967296)) % 4294967296
 
--- how many are queued: 18 at most, so that a difference past it, to which no call leads, counts as 18
+-- how many are queued: a difference past 18, to which no operation leads, counts as 18
+abbrev pub held : ℕ → ℕ → ℕ
+held head tail = min (distance head tail) 18
+
 abbrev pub lengthOf : Queue → ℕ
-lengthOf q = min (distance (q .head) (q .tail)) 18
+lengthOf q = held (q .head) (q .tail)
 
 -- the transmissions at n positions, from p on
 abbrev pub queuedFrom : ℕ → ℕ → List Transmission → List Transmission

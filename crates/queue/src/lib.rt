@@ -6,7 +6,7 @@ ghost use lib.ListN.{length, getD, drop};
 ghost use Rattle.lists.specs.Sums.{any};
 ghost use Rattle.lists.specs.Vector.{put};
 ghost use Rattle.queue.specs.Queue.{queueOf};
-ghost use Rattle.queue.specs.Ring.{ringAt};
+ghost use Rattle.queue.specs.Ring.{ringFrom};
 ghost use Rattle.transmission.specs.Transmission.{noTransmission, headOf, owedBy, numbered, orphaned};
 
 mod ring;
@@ -31,7 +31,7 @@ impl Queue {
 
     // An empty queue whose head is at any position.
     pub fn empty_at(position: u32) -> Queue
-        ensures { λ r. ⌜ r ≡ ringAt position ⌝ }
+        ensures { λ r. ⌜ r ≡ ringFrom position ⌝ }
     {
         Queue {
             head: position,
@@ -43,14 +43,14 @@ impl Queue {
     pub fn emptied(self) -> Queue
         ensures { λ r. ⌜ queueOf r ≡ [] ⌝ }
     {
-        ring::empty(self)
+        ring::clear(self)
     }
 
     pub fn count(self) -> usize
         ensures { λ r. ⌜ r ≡ length (queueOf self) ⌝ }
         ensures { λ r. ⌜ r ≤ 18 ⌝ }
     {
-        ring::length(self) as usize
+        ring::length(self.head, self.tail) as usize
     }
 
     // One more at the end; a full queue stays.
@@ -67,14 +67,14 @@ impl Queue {
         self.at(0)
     }
 
-    // The one that i others are before, or none.
+    // The transmission i after the head, or none.
     pub fn at(self, i: usize) -> Transmission
         ensures { λ r. ⌜ r ≡ getD (queueOf self) i noTransmission ⌝ }
     {
         if self.count() <= i {
             return Transmission::none();
         }
-        let at = ring::place(std::num::wrapping_add_u32(self.head, i as u32));
+        let at = ring::place_after(self.head, i as u32);
         self.slots[at]
     }
 
@@ -90,12 +90,12 @@ impl Queue {
         ensures { λ r. ⌜ r .replies ≤ 18 ⌝ }
     {
         let head = self.head;
-        let n = ring::length(self);
+        let n = ring::length(head, self.tail);
         let mut room = 0;
         let mut replies = 0;
         let mut i = 0;
         while i < n {
-            let at = ring::place(std::num::wrapping_add_u32(head, i));
+            let at = ring::place_after(head, i);
             let one = self.slots[at].owed(handle);
             room += one.room;
             replies += one.replies;
@@ -111,10 +111,10 @@ impl Queue {
         ensures { λ r. ⌜ r ≡ any (numbered sequence) (queueOf self) ⌝ }
     {
         let head = self.head;
-        let n = ring::length(self);
+        let n = ring::length(head, self.tail);
         let mut i = 0;
         while i < n {
-            let at = ring::place(std::num::wrapping_add_u32(head, i));
+            let at = ring::place_after(head, i);
             if self.slots[at].sequence == sequence {
                 return true;
             }

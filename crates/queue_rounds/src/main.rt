@@ -1,5 +1,5 @@
-// Queues whose head begins at a position: 10,000 transmissions go through each, across place 32 hundreds of times and, near the greatest position, across the wrap.
-// For each it prints how many came out in their turn, and then what a close leaves of 18 that stand across the wrap.
+// Queues whose head begins at a position: 10,000 transmissions go through each, from place 31 to 0 hundreds of times and, near the greatest position, across the wrap.
+// For each it prints how many came out in their turn, and then what is queued of 19 that were put across the wrap, before a close and after it.
 use queue::Queue;
 use transmission::Transmission;
 
@@ -22,7 +22,7 @@ fn transmission(owner: u8, sequence: u32) -> Transmission {
     one
 }
 
-// One more, numbered after the last; handles 1 and 2 by turns.
+// One more, numbered after the last; handles 2 and 1 by turns.
 fn one_in(mut run: Run) -> Run {
     let n = std::num::wrapping_add_u32(run.put, 1);
     run.put = n;
@@ -54,15 +54,15 @@ fn turns(mut run: Run, many: u32, out: bool) -> Run {
     run
 }
 
-// So many wait at a position.
-fn filled(position: u32, deep: u32) -> Run {
+// A queue that begins at a position, after so many were put.
+fn filled(position: u32, many: u32) -> Run {
     let start = Run {
         queue: Queue::empty_at(position),
         put: 0,
         taken: 0,
         in_turn: 0,
     };
-    turns(start, deep, false)
+    turns(start, many, false)
 }
 
 fn say(text: &[u8], number: u64) {
@@ -70,28 +70,34 @@ fn say(text: &[u8], number: u64) {
     io::print_decimal(1, number);
 }
 
-fn say_through(position: u32, deep: u32) {
+fn say_turns(position: u32, queued: u32) {
     say(b"from position ", position as u64);
-    say(b", behind ", deep as u64);
+    say(b", with ", queued as u64);
     say(
-        b": in turn ",
-        turns(filled(position, deep), MANY, true).in_turn as u64,
+        b" queued before: in turn ",
+        turns(filled(position, queued), MANY, true).in_turn as u64,
     );
     io::write_all(1, b"\n");
 }
 
-fn main() {
-    say_through(0, 0);
-    say_through(31, 17);
-    say_through(LAST - 5000, 3);
-    say_through(LAST, 17);
-    let queue = filled(LAST - 8, 18).queue;
-    let left = queue.orphaned(1);
-    say(b"across the wrap: queued ", queue.count() as u64);
-    say(b", of handle 1 ", queue.owed(1).room as u64);
+fn say_queued(queue: Queue) {
+    say(b": queued ", queue.count() as u64);
+    say(b", the last is number ", queue.at(17).sequence as u64);
+    say(b"; of handle 1 ", queue.owed(1).room as u64);
     say(b", of handle 2 ", queue.owed(2).room as u64);
-    say(b"; handle 1 closed: queued ", left.count() as u64);
-    say(b", of handle 1 ", left.owed(1).room as u64);
-    say(b", of handle 2 ", left.owed(2).room as u64);
     io::write_all(1, b"\n");
+}
+
+fn main() {
+    say_turns(0, 0);
+    say_turns(31, 17);
+    say_turns(LAST - 5000, 3);
+    say_turns(LAST, 17);
+    let queue = filled(LAST - 8, 19).queue;
+    io::write_all(1, b"19 put across the wrap");
+    say_queued(queue);
+    io::write_all(1, b"handle 2 closed");
+    say_queued(queue.orphaned(2));
+    io::write_all(1, b"emptied");
+    say_queued(queue.emptied());
 }

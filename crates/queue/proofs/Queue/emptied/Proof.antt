@@ -1,16 +1,16 @@
 -- `queue::Queue::emptied` meets its contract. Assumes nothing.
 use mathlib.Core.Path.{refl}
 use borrow.Author.Needs.{needs}
-use Rattle.queue.specs.Ring.{ringEmpty}
+use Rattle.queue.specs.Ring.{ringClear}
 use Rattle.queue.proofs.Queued.{empty-ring}
 use Rattle.queue.proofs.Queue.emptied.Statement.{statement}
 use Rattle.queue.proofs.Queue.emptied.Tie as tie
 
-empty-requires : tie.Need-empty-requires
-empty-requires c κs = search needs
+clear-requires : tie.Need-clear-requires
+clear-requires c κs = search needs
 
 returns : tie.Need-returns
-returns c = rw (c .empty .ensures) (empty-ring (ringEmpty (c .before .args .self)) refl)
+returns c = rw (c .clear .ensures) (empty-ring (ringClear (c .before .args .self)) refl)
 
 pub emptied-spec : {M : Type 1} → statement M
-emptied-spec = tie.close (tie.spec empty-requires returns)
+emptied-spec = tie.close (tie.spec clear-requires returns)

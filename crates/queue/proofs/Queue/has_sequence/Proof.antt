@@ -8,7 +8,7 @@ use borrow.Author.Tests.{eq-eqb, ne-eqb}
 use Rattle.lists.specs.Sums.{any}
 use Rattle.queue.specs.Queue.{lengthOf, queuedFrom}
 use Rattle.transmission.specs.Transmission.{numbered}
-use Rattle.queue.proofs.Queued.{slot-read, queued-passed, queued-found}
+use Rattle.queue.proofs.Queued.{place-read, queued-passed, queued-found}
 use Rattle.queue.proofs.Slots.{queue-long}
 use Rattle.queue.proofs.Queue.has_sequence.Statement.{statement}
 use Rattle.queue.proofs.Queue.has_sequence.Tie as tie
@@ -25,11 +25,8 @@ length-requires c κs = search needs
 loop-holds : tie.Need-loop-holds Inv-loop μ-loop
 loop-holds c = (omega arith, refl)
 
-wrapping-add-u32-requires : tie.Need-wrapping-add-u32-requires Inv-loop μ-loop
-wrapping-add-u32-requires c κs = search needs
-
-place-requires : tie.Need-place-requires Inv-loop μ-loop
-place-requires c κs = search needs
+place-after-requires : tie.Need-place-after-requires Inv-loop μ-loop
+place-after-requires c κs = search needs
 
 mul-if1 : tie.Need-mul-if1 Inv-loop μ-loop
 mul-if1 c = search needs
@@ -40,12 +37,12 @@ element-copy-out-if1 c = search needs
 returns : tie.Need-returns Inv-loop μ-loop
 returns c =
     let places = c .before in
-    let turn = places .before .before .before in
+    let turn = places .before .before in
     let start = turn .before .before in
     let l = turn .loop in
     let q = start .args .t1 in
     let e = start .args .sequence in
-    let read = rw (places .place .ensures .0, places .before .wrapping-add-u32 .ensures, slot-read (q .slots) (q .head) (l .i) _ (queue-long q _ (start .good .0))) at (c .if1 .taken) in
+    let read = rw (places .place-after .ensures .0, place-read (q .slots) (q .head) (l .i) _ (queue-long q _ (start .good .0))) at (c .if1 .taken) in
     sym (queued-found (numbered e) (q .head) (lengthOf q) (l .i) (q .slots) (omega (arith, turn .before .length .ensures .0)) (eq-eqb _ _ read))
 
 add-i : tie.Need-add-i Inv-loop μ-loop
@@ -57,12 +54,12 @@ loop-less c = search needs
 loop-again : tie.Need-loop-again Inv-loop μ-loop
 loop-again c =
     let places = c .before in
-    let turn = places .before .before .before in
+    let turn = places .before .before in
     let start = turn .before .before in
     let l = turn .loop in
     let q = start .args .t1 in
     let e = start .args .sequence in
-    let read = rw (places .place .ensures .0, places .before .wrapping-add-u32 .ensures, slot-read (q .slots) (q .head) (l .i) _ (queue-long q _ (start .good .0))) at (c .if1 .left) in
+    let read = rw (places .place-after .ensures .0, place-read (q .slots) (q .head) (l .i) _ (queue-long q _ (start .good .0))) at (c .if1 .left) in
     (omega arith, queued-passed (numbered e) (q .head) (l .i) (q .slots) (l .inv .1) (ne-eqb _ _ read))
 
 returns-2 : tie.Need-returns-2 Inv-loop μ-loop
@@ -80,8 +77,7 @@ has-sequence-spec =
     μ-loop
     length-requires
     loop-holds
-    wrapping-add-u32-requires
-    place-requires
+    place-after-requires
     mul-if1
     element-copy-out-if1
     returns

@@ -7,7 +7,7 @@ use Rattle.lists.specs.Sums.{sum}
 use Rattle.queue.specs.Queue.{lengthOf, queuedFrom}
 use Rattle.transmission.specs.Transmission.{roomFor, replyFor}
 use Rattle.transmission.specs.declared.Owed.{Owed}
-use Rattle.queue.proofs.Queued.{slot-read, queued-sum}
+use Rattle.queue.proofs.Queued.{place-read, queued-sum}
 use Rattle.queue.proofs.Slots.{queue-long}
 use Rattle.queue.proofs.Queue.owed.Statement.{statement}
 use Rattle.queue.proofs.Queue.owed.Tie as tie
@@ -29,11 +29,8 @@ length-requires c κs = search needs
 loop-holds : tie.Need-loop-holds Inv-loop μ-loop
 loop-holds c = (omega arith, refl, refl, omega arith, omega arith)
 
-wrapping-add-u32-requires : tie.Need-wrapping-add-u32-requires Inv-loop μ-loop
-wrapping-add-u32-requires c κs = search needs
-
-place-requires : tie.Need-place-requires Inv-loop μ-loop
-place-requires c κs = search needs
+place-after-requires : tie.Need-place-after-requires Inv-loop μ-loop
+place-after-requires c κs = search needs
 
 mul-owed : tie.Need-mul-owed Inv-loop μ-loop
 mul-owed c = search needs
@@ -59,12 +56,12 @@ loop-less c = search needs
 loop-again : tie.Need-loop-again Inv-loop μ-loop
 loop-again c =
     let places = c .before .before .before .before in
-    let turn = places .before .before .before in
+    let turn = places .before .before in
     let start = turn .before .before in
     let l = turn .loop in
     let q = start .args .t1 in
     let h = start .args .handle in
-    let read = rw (places .place .ensures .0, places .before .wrapping-add-u32 .ensures, slot-read (q .slots) (q .head) (l .i) _ (queue-long q _ (start .good .0))) at (c .before .before .owed .ensures .0) in (
+    let read = rw (places .place-after .ensures .0, place-read (q .slots) (q .head) (l .i) _ (queue-long q _ (start .good .0))) at (c .before .before .owed .ensures .0) in (
       omega arith,
       ap₂ _+_ (l .inv .1) (ap (λ (x : Owed). x .room) read) ∙ sym (queued-sum (roomFor h) (q .head) (l .i) (q .slots)),
       ap₂ _+_ (l .inv .2) (ap (λ (x : Owed). x .replies) read) ∙ sym (queued-sum (replyFor h) (q .head) (l .i) (q .slots)),
@@ -87,8 +84,7 @@ owed-spec =
     μ-loop
     length-requires
     loop-holds
-    wrapping-add-u32-requires
-    place-requires
+    place-after-requires
     mul-owed
     element-copy-out-owed
     owed-requires

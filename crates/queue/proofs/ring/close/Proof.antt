@@ -22,11 +22,8 @@ length-requires c κs = search needs
 loop-holds : tie.Need-loop-holds Inv-loop μ-loop
 loop-holds c = (omega arith, refl)
 
-wrapping-add-u32-requires : tie.Need-wrapping-add-u32-requires Inv-loop μ-loop
-wrapping-add-u32-requires c κs = search needs
-
-place-requires : tie.Need-place-requires Inv-loop μ-loop
-place-requires c κs = search needs
+place-after-requires : tie.Need-place-after-requires Inv-loop μ-loop
+place-after-requires c κs = search needs
 
 mul-orphaned : tie.Need-mul-orphaned Inv-loop μ-loop
 mul-orphaned c = search needs
@@ -37,8 +34,8 @@ element-copy-out-orphaned c = search needs
 orphaned-requires : tie.Need-orphaned-requires Inv-loop μ-loop
 orphaned-requires c κs = search needs
 
-mul-t16 : tie.Need-mul-t16 Inv-loop μ-loop
-mul-t16 c = search needs
+mul-t15 : tie.Need-mul-t15 Inv-loop μ-loop
+mul-t15 c = search needs
 
 element-set-from-queue : tie.Need-element-set-from-queue Inv-loop μ-loop
 element-set-from-queue c = search needs
@@ -52,12 +49,12 @@ loop-less c = search needs
 loop-again : tie.Need-loop-again Inv-loop μ-loop
 loop-again c =
     let places = c .before .before in
-    let turn = places .before .before .before in
+    let turn = places .before .before in
     let start = turn .before .before in
     let q = start .args .t1 in
     let long = queue-long q _ (start .good .0) in (
       omega arith,
-      rw (c .orphaned .ensures, turn .loop .inv .1, places .place .ensures .0, places .before .wrapping-add-u32 .ensures)
+      rw (c .orphaned .ensures, turn .loop .inv .1, places .place-after .ensures .0)
           (ap (withSlots q) (closed-next (start .args .handle) (q .head) (turn .loop .i) (q .slots) _ long)),
     )
 
@@ -76,12 +73,11 @@ close-spec =
     μ-loop
     length-requires
     loop-holds
-    wrapping-add-u32-requires
-    place-requires
+    place-after-requires
     mul-orphaned
     element-copy-out-orphaned
     orphaned-requires
-    mul-t16
+    mul-t15
     element-set-from-queue
     add-i
     loop-less

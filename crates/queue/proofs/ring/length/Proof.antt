@@ -10,16 +10,16 @@ wrapping-sub-u32-requires c κs = search needs
 
 returns : tie.Need-returns
 returns c =
-    let q = c .before .before .args .queue in
+    let a = c .before .before .args in
     let n = c .before .wrapping-sub-u32 in
-    let is = distance-is (q .head) (q .tail) (n .result) (omega arith) (n .ensures) in
+    let is = distance-is (a .head) (a .tail) (n .result) (omega arith) (n .ensures) in
     (omega arith, omega arith)
 
 returns-2 : tie.Need-returns-2
 returns-2 c =
-    let q = c .before .before .args .queue in
+    let a = c .before .before .args in
     let n = c .before .wrapping-sub-u32 in
-    let is = distance-is (q .head) (q .tail) (n .result) (omega arith) (n .ensures) in
+    let is = distance-is (a .head) (a .tail) (n .result) (omega arith) (n .ensures) in
     (omega arith, omega arith)
 
 pub length-spec : {M : Type 1} → statement M
