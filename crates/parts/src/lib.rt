@@ -20,7 +20,7 @@ use waits::Waits;
 use wire::Wire;
 
 // The inboxes lie in `entries`, handle h's in the 16 places from 16 * h on, with their `counts` apart: arrays that lie in the struct itself are written in place.
-// The entries stand last: the compiler then sees that a store at a computed index leaves all other fields, and copies fewer of them.
+// The order is by measurement: with the counts first and the entries last the compiler copies least.
 #[repr(C)]
 pub struct Parts {
     pub counts: [usize; 8],

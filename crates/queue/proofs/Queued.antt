@@ -17,17 +17,13 @@ use Rattle.lists.specs.Sums.{sum, sum-append, any, any-append}
 use Rattle.lists.specs.Tests.{split, or-true, or-false}
 use Rattle.lists.specs.Vector.{put}
 use Rattle.queue.proofs.Positions.{distance-none, distance-more, distance-onward, onward-next, place-here, place-tail, place-other}
-use Rattle.queue.specs.Queue.{onward, place, distance, lengthOf, queuedFrom, queueOf}
-use Rattle.queue.specs.Ring.{ringPut, ringTake, closedSlots, ringClose, slotOf, ringAt, ringOwed, numberedIn}
+use Rattle.queue.specs.Queue.{onward, place, distance, slotAt, lengthOf, queuedFrom, queueOf}
+use Rattle.queue.specs.Ring.{ringPut, ringTake, closedSlots, ringClose, ringAt, ringOwed, numberedIn}
 use Rattle.queue.specs.declared.Queue.{Queue}
 use Rattle.transmission.specs.Transmission.{noTransmission, orphaned, roomFor, replyFor, numbered, owedBy}
 use Rattle.transmission.specs.declared.Transmission.{Transmission}
 
--- the transmission at the position n after another
-abbrev pub slotAt : List Transmission → ℕ → ℕ → Transmission
-slotAt l p n = getD l (place (onward p n)) noTransmission
-
--- what the code reads there, whatever stands past an end
+-- what the code reads at a place, whatever stands past an end
 pub place-read : (l : List Transmission) (p n : ℕ) (d : Transmission) → length l ≡ 32 → getD l (place (onward p n)) d ≡ slotAt l p n
 place-read l p n d long = getD-within l (place (onward p n)) d noTransmission (omega arith)
 
@@ -83,7 +79,7 @@ numbered-ring : (q : Queue) (number n : ℕ) → numberedIn q number n ≡ any (
 numbered-ring q number zero = refl
 numbered-ring q number (suc n) =
     let f = numbered number in
-    let x = slotOf q n in
+    let x = slotAt (q .slots) (q .head) n in
     let more = ap (any f) (queued-last (q .head) n (q .slots)) ∙ any-append f (queuedFrom (q .head) n (q .slots)) (x ∷ []) in
     rw (numbered-ring q number n) (sym (more ∙ ap (λ (b : Bool). any f (queuedFrom (q .head) n (q .slots)) || b) (or-false (f x))))
 

@@ -27,6 +27,10 @@ held head tail = min (distance head tail) 18
 abbrev pub lengthOf : Queue → ℕ
 lengthOf q = held (q .head) (q .tail)
 
+-- the transmission at the position n after p
+abbrev pub slotAt : List Transmission → ℕ → ℕ → Transmission
+slotAt slots p n = getD slots (place (onward p n)) noTransmission
+
 -- the transmissions at n positions, from p on
 abbrev pub queuedFrom : ℕ → ℕ → List Transmission → List Transmission
 queuedFrom p zero slots = []

@@ -4,9 +4,9 @@ use Prim.Native.Nat.{ℕ, zero, suc, _-_}
 use mathlib.Core.Bool.{Bool, false, cond, _||_}
 use mathlib.Core.List.{List}
 use lib.Dec.{eqb, ltb}
-use lib.ListN.{getD, set, replicate}
+use lib.ListN.{set, replicate}
 use Rattle.lists.specs.Pigeonhole.{upto}
-use Rattle.queue.specs.Queue.{onward, place, lengthOf}
+use Rattle.queue.specs.Queue.{onward, place, slotAt, lengthOf}
 use Rattle.queue.specs.declared.Queue.{Queue}
 use Rattle.transmission.specs.Transmission.{noTransmission, orphaned, roomFor, replyFor, numbered}
 use Rattle.transmission.specs.declared.Owed.{Owed}
@@ -27,7 +27,7 @@ ringTake q = cond (eqb (lengthOf q) 0) q (record { head = onward (q .head) 1; ta
 -- the slots after a close of handle h: those of n positions from p on
 abbrev pub closedSlots : ℕ → ℕ → ℕ → List Transmission → List Transmission
 closedSlots h p zero slots = slots
-closedSlots h p (suc n) slots = set (closedSlots h p n slots) (place (onward p n)) (orphaned h (getD (closedSlots h p n slots) (place (onward p n)) noTransmission))
+closedSlots h p (suc n) slots = set (closedSlots h p n slots) (place (onward p n)) (orphaned h (slotAt (closedSlots h p n slots) p n))
 
 abbrev pub withSlots : Queue → List Transmission → Queue
 withSlots q slots = record { head = q .head; tail = q .tail; slots = slots }
@@ -39,19 +39,15 @@ ringClose q h = withSlots q (closedSlots h (q .head) (lengthOf q) (q .slots))
 abbrev pub ringClear : Queue → Queue
 ringClear q = record { head = q .head; tail = q .head; slots = q .slots }
 
--- The questions. The transmission at the position n after the head:
-abbrev pub slotOf : Queue → ℕ → Transmission
-slotOf q n = getD (q .slots) (place (onward (q .head) n)) noTransmission
-
--- which is none past the last
+-- The questions. The transmission n after the head; none past the last
 abbrev pub ringAt : Queue → ℕ → Transmission
-ringAt q n = cond (ltb n (lengthOf q)) (slotOf q n) noTransmission
+ringAt q n = cond (ltb n (lengthOf q)) (slotAt (q .slots) (q .head) n) noTransmission
 
 -- what is owed to handle h, over the positions of the queue
 abbrev pub ringOwed : Queue → ℕ → Owed
-ringOwed q h = record { room = upto (λ n. roomFor h (slotOf q n)) (lengthOf q); replies = upto (λ n. replyFor h (slotOf q n)) (lengthOf q) }
+ringOwed q h = record { room = upto (λ n. roomFor h (slotAt (q .slots) (q .head) n)) (lengthOf q); replies = upto (λ n. replyFor h (slotAt (q .slots) (q .head) n)) (lengthOf q) }
 
 -- whether one of the first n has the number
 abbrev pub numberedIn : Queue → ℕ → ℕ → Bool
 numberedIn q number zero = false
-numberedIn q number (suc n) = numberedIn q number n || numbered number (slotOf q n)
+numberedIn q number (suc n) = numberedIn q number n || numbered number (slotAt (q .slots) (q .head) n)
