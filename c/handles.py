@@ -21,7 +21,7 @@ class Counts(Structure):
 
 
 class Entry(Structure):
-    _fields_ = [("sequence", c_uint32), ("tx_status", c_uint8), ("rx_status", c_uint8), ("message", Message), ("counts", Counts)]
+    _fields_ = [("sequence", c_uint32), ("tx_status", c_uint8), ("rx_status", c_uint8), ("message", Message), ("counts", Counts), ("reply", c_uint8)]
 
 
 class Request(Structure):

@@ -39,6 +39,11 @@
 
 #include "prototypes.inc"
 
+/* The rules of a reply have the numbers of the proved code. */
+#define RULE(name, number) _Static_assert(CLOTHBADGER_REPLY_##name == number, "rule " #name)
+
+#include "rules.inc"
+
 /* Every byte of what a form by pointer hands out belongs to a field. */
 #define BYTES(ours, field) sizeof(((struct ours *)0)->field)
 #define NO_PADDING(ours, bytes) _Static_assert(sizeof(struct ours) == (bytes), "padding in " #ours)
@@ -78,8 +83,9 @@ SAME(cec_entry, entry_Entry, tx_status);
 SAME(cec_entry, entry_Entry, rx_status);
 SAME_STRUCT(cec_entry, entry_Entry, message);
 SAME_STRUCT(cec_entry, entry_Entry, counts);
+SAME(cec_entry, entry_Entry, reply);
 NO_PADDING(cec_entry, BYTES(cec_entry, sequence) + BYTES(cec_entry, tx_status) + BYTES(cec_entry, rx_status) + BYTES(cec_entry, message)
-                          + BYTES(cec_entry, counts) + BYTES(cec_entry, reserved));
+                          + BYTES(cec_entry, counts) + BYTES(cec_entry, reply));
 
 SIZES(cec_request, request_Request);
 SAME(cec_request, request_Request, length);

@@ -1,4 +1,4 @@
-/* Arguments and fields that the other programs do not print: capabilities, settings, counts, rows. */
+/* Arguments and fields that the other programs do not print: capabilities, settings, counts, rows, opcodes of replies. */
 #include "clothbadger.h"
 
 #include <inttypes.h>
@@ -64,6 +64,47 @@ static void counts(uint8_t status)
     printf("status %02X: counts %u %u %u %u\n", status, kept.arb_lost, kept.nack, kept.low_drive, kept.error);
 }
 
+static void next_entry(const char *name)
+{
+    struct cec_entry entry = cec_receive(&adapter, 0).entry;
+    printf("%s: tx_status %u, rx_status %u, reply %02X\n", name, entry.tx_status, entry.rx_status, entry.reply);
+}
+
+/* CEC_MSG_INITIATE_ARC is sent, and CEC_MSG_REPORT_ARC_INITIATED wanted. */
+static void initiate_arc(void)
+{
+    struct cec_request request = {.length = 2, .bytes = {0x40, CEC_MSG_INITIATE_ARC}, .reply = CEC_MSG_REPORT_ARC_INITIATED};
+    cec_transmit(&adapter, 0, request);
+    cec_bus_start(&adapter);
+    cec_bus_result(&adapter, CEC_TX_STATUS_OK, (struct cec_counts){0});
+    next_entry("result");
+}
+
+static void answered(const char *name, struct cec_message message)
+{
+    initiate_arc();
+    cec_received(&adapter, message);
+    next_entry(name);
+}
+
+/* The opcode that an entry shows: the one that came, or the one that was wanted. */
+static void replies(void)
+{
+    answered("wanted opcode", (struct cec_message){.length = 2, .bytes = {0x04, CEC_MSG_REPORT_ARC_INITIATED}});
+    answered("the other of the pair", (struct cec_message){.length = 2, .bytes = {0x04, CEC_MSG_REPORT_ARC_TERMINATED}});
+    answered("Feature Abort",
+             (struct cec_message){.length = 4, .bytes = {0x04, CEC_MSG_FEATURE_ABORT, CEC_MSG_INITIATE_ARC, CEC_OP_ABORT_REFUSED}});
+    initiate_arc();
+    cec_time_passed(&adapter, 1000);
+    next_entry("timeout");
+    cec_set_mode(&adapter, 0, CEC_MODE_INITIATOR | CEC_MODE_FOLLOWER);
+    cec_received(&adapter, (struct cec_message){.length = 2, .bytes = {0x04, CEC_MSG_REPORT_POWER_STATUS}});
+    next_entry("copy");
+    initiate_arc();
+    cec_unconfigure(&adapter);
+    next_entry("unconfigure");
+}
+
 /* Nine rows: the ninth stays. Seven: EINVAL. */
 static void rows(void)
 {
@@ -85,5 +126,6 @@ int main(void)
     counts(CEC_TX_STATUS_OK | CEC_TX_STATUS_NACK);
     printf("poll of an own address: tx_status %u\n", poll(0x44).tx_status);
     rows();
+    replies();
     return 0;
 }

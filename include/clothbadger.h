@@ -156,6 +156,8 @@ struct cec_counts {
 /*
  * What an inbox holds. Under a sequence number: the result of that transmit (tx_status not 0), or the end of its wait
  * (rx_status not 0: reply, Feature Abort, timeout or abort). With sequence 0: a copy for a monitor or a follower.
+ * At the end of a wait, reply is the opcode that came, CEC_MSG_FEATURE_ABORT for a Feature Abort, or, with a timeout or an
+ * abort, the opcode that was wanted. In results and copies it is 0.
  */
 struct cec_entry {
     uint32_t sequence;
@@ -163,7 +165,7 @@ struct cec_entry {
     uint8_t rx_status;
     struct cec_message message;
     struct cec_counts counts;
-    uint8_t reserved;
+    uint8_t reply;
 };
 
 /*
@@ -209,7 +211,7 @@ struct cec_row {
 };
 
 /*
- * The answers of the calls that give more than an error. What would be padding is a field, reserved, here and in entries and rows,
+ * The answers of the calls that give more than an error. What would be padding is a field, reserved, here and in rows,
  * so that C copies it. It is 0 in what the forms by pointer give; the proved functions leave there what was in memory before.
  */
 struct cec_open_answer {
@@ -310,12 +312,14 @@ uint16_t cec_adapter_active_address(struct cec_adapter adapter);
 struct cec_route_answer cec_route(uint16_t first, uint16_t second);
 
 /*
- * Whether the received bytes are the reply to the sent bytes, with the opcode
- * wanted as the reply: 1 for a match, 0 for none. Each message is a pointer and
- * a length; any length is taken, and one under 2 or over 16 is no match. A Feature
- * Abort of the sent opcode matches too; where CEC_MSG_INITIATE_ARC wants one of the
- * two ARC reports, either does.
+ * By which rule the received bytes are the reply to the sent bytes, with the opcode wanted as the reply; the first of the three that
+ * holds, or none. Each message is a pointer and a length; any length is taken, and one under 2 or over 16 is no match.
  */
+#define CLOTHBADGER_REPLY_NO_MATCH      0
+#define CLOTHBADGER_REPLY_FEATURE_ABORT 1 /* CEC_MSG_FEATURE_ABORT of the sent opcode */
+#define CLOTHBADGER_REPLY_WANTED_OPCODE 2 /* the opcode wanted, not 0 */
+#define CLOTHBADGER_REPLY_ARC_PAIR      3 /* the other ARC report, where CEC_MSG_INITIATE_ARC wants one of the two */
+
 uint8_t cec_reply_match(const uint8_t *sent, size_t sent_length,
                         const uint8_t *received, size_t received_length,
                         uint8_t wanted);
@@ -412,6 +416,7 @@ static inline struct cec_receive_answer cec_receive(struct cec_adapter *adapter,
     answer.entry.rx_status = after.answer.entry.rx_status;
     answer.entry.message = after.answer.entry.message;
     answer.entry.counts = after.answer.entry.counts;
+    answer.entry.reply = after.answer.entry.reply;
     return answer;
 }
 

@@ -66,7 +66,7 @@ message = (λ d. refl, (refl, (refl, refl)))
 counts : HasLayout Counts.struct Counts′.mir (λ d. (d .«arb_lost», (d .nack, (d .«low_drive», (d .error, tt))))) (0 ∷ 1 ∷ 2 ∷ 3 ∷ []) 4 1
 counts = (λ d. refl, (refl, (refl, refl)))
 
-entry : HasLayout Entry.struct Entry′.mir (λ d. (d .sequence, (d .«tx_status», (d .«rx_status», (d .message, (d .counts, tt)))))) (0 ∷ 4 ∷ 5 ∷ 6 ∷ 23 ∷ []) 28 4
+entry : HasLayout Entry.struct Entry′.mir (λ d. (d .sequence, (d .«tx_status», (d .«rx_status», (d .message, (d .counts, (d .reply, tt))))))) (0 ∷ 4 ∷ 5 ∷ 6 ∷ 23 ∷ 27 ∷ []) 28 4
 entry = (λ d. refl, (refl, (refl, refl)))
 
 request : HasLayout Request.struct Request′.mir (λ d. (d .length, (d .bytes, (d .reply, (d .timeout, (d .flags, tt)))))) (0 ∷ 1 ∷ 17 ∷ 20 ∷ 24 ∷ []) 28 4

@@ -5,8 +5,7 @@ ghost use prog.Memory.{size};
 ghost use Rattle.adapter.proofs.Adapter.Laws as adapter-laws;
 ghost use Rattle.adapter.specs.Adapter.{stateOf, doneOf, openedOf, transmittedOf, receivedOf, startedOf, activeOf, refusedCall, refusedOpen, refusedTransmit, refusedReceive, refusedBusStart};
 ghost use Rattle.listing.specs.Rows.{Lists};
-ghost use Rattle.lists.specs.Tests.{bit};
-ghost use Rattle.message.specs.Reply.{isReply};
+ghost use Rattle.message.specs.Rule.{replyRule};
 ghost use Rattle.request.specs.Request.{requestOf};
 ghost use Rattle.route.specs.Route.{routeOf};
 ghost use Rattle.rows.specs.Noted.{notedOf, refusedLookup};
@@ -169,10 +168,10 @@ pub extern "C" fn cec_route(first: u16, second: u16) -> Route
     route::between(first, second)
 }
 
-// The reply test on bytes: 1 for a match, 0 for none.
+// The reply test on bytes: the rule of a match, 1 to 3, and 0 for none.
 #[no_mangle]
 pub extern "C" fn cec_reply_match(sent: &[u8], received: &[u8], wanted: u8) -> u8
-    ensures { λ r. ⌜ r ≡ bit (isReply (now (sent .entry)) (now (received .entry)) wanted) ⌝ }
+    ensures { λ r. ⌜ r ≡ replyRule (now (sent .entry)) (now (received .entry)) wanted ⌝ }
 {
     message::reply::cec_reply_match(sent, received, wanted)
 }

@@ -1,8 +1,8 @@
--- An entry of an inbox, one definition for each kind (document 01, "The adapter's parts": what a rule does not name is 0).
+-- An entry of an inbox, one definition for each kind (document 01, "The adapter's parts": what a rule does not name is 0; document 02, W-207: the opcode of a reply).
 -- Assumes nothing.
 use Prim.Native.Nat.{ℕ, _+_}
 use Rattle.constants.specs.Kernel.{CEC-RX-STATUS-OK, CEC-RX-STATUS-TIMEOUT, CEC-RX-STATUS-FEATURE-ABORT, CEC-RX-STATUS-ABORTED}
-use Rattle.message.specs.Message.{noMessage}
+use Rattle.message.specs.Message.{noMessage, opcode}
 use Rattle.message.specs.declared.Message.{Message}
 use Rattle.entry.specs.declared.Counts.{Counts}
 use Rattle.entry.specs.declared.Entry.{Entry}
@@ -10,36 +10,40 @@ use Rattle.entry.specs.declared.Entry.{Entry}
 abbrev pub noCounts : Counts
 noCounts = record { «arb_lost» = 0; nack = 0; «low_drive» = 0; error = 0 }
 
--- "A result shows the status, the kept counts, and the sent length and bytes", under the transmit's number
+-- "A result shows the status, the kept counts, and the sent length and bytes", under the transmit's number; "Results and copies show 0" (W-207)
 abbrev pub result : ℕ → ℕ → Counts → Message → Entry
-result sequence status counts sent = record { sequence = sequence; «tx_status» = status; «rx_status» = 0; message = sent; counts = counts }
+result sequence status counts sent = record { sequence = sequence; «tx_status» = status; «rx_status» = 0; message = sent; counts = counts; reply = 0 }
 
 -- "each monitor, ascending, gets a copy (sequence 0)"
 abbrev pub resultCopy : ℕ → Counts → Message → Entry
 resultCopy status counts sent = result 0 status counts sent
 
--- an entry that shows a receive status and a message alone
-abbrev pub rxEntry : ℕ → ℕ → Message → Entry
-rxEntry sequence status m = record { sequence = sequence; «tx_status» = 0; «rx_status» = status; message = m; counts = noCounts }
+-- an entry that shows a receive status, a message and the opcode of a reply alone
+abbrev pub rxEntry : ℕ → ℕ → Message → ℕ → Entry
+rxEntry sequence status m opcode = record { sequence = sequence; «tx_status» = 0; «rx_status» = status; message = m; counts = noCounts; reply = opcode }
+
+-- "Each reply entry also shows the opcode that really came" (W-207)
+abbrev pub matched : ℕ → ℕ → Message → Entry
+matched sequence status came = rxEntry sequence status came (opcode (came .bytes))
 
 -- "its handle gets the message under that number, rx_status 0x01, or 0x05 for Feature Abort"
 abbrev pub reply : ℕ → Message → Entry
-reply sequence came = rxEntry sequence CEC-RX-STATUS-OK came
+reply sequence came = matched sequence CEC-RX-STATUS-OK came
 
 abbrev pub featureAbortReply : ℕ → Message → Entry
-featureAbortReply sequence came = rxEntry sequence (CEC-RX-STATUS-OK + CEC-RX-STATUS-FEATURE-ABORT) came
+featureAbortReply sequence came = matched sequence (CEC-RX-STATUS-OK + CEC-RX-STATUS-FEATURE-ABORT) came
 
--- "an entry of its number, rx_status 0x02, and the sent length and bytes"
-abbrev pub timedOut : ℕ → Message → Entry
-timedOut sequence sent = rxEntry sequence CEC-RX-STATUS-TIMEOUT sent
+-- "an entry of its number, rx_status 0x02, and the sent length and bytes"; "timeouts and aborted waits show the wanted one" (W-207)
+abbrev pub timedOut : ℕ → Message → ℕ → Entry
+timedOut sequence sent wanted = rxEntry sequence CEC-RX-STATUS-TIMEOUT sent wanted
 
 -- "with their number, rx_status 0x08, and the sent length and bytes"
-abbrev pub aborted : ℕ → Message → Entry
-aborted sequence sent = rxEntry sequence CEC-RX-STATUS-ABORTED sent
+abbrev pub aborted : ℕ → Message → ℕ → Entry
+aborted sequence sent wanted = rxEntry sequence CEC-RX-STATUS-ABORTED sent wanted
 
 -- the copy of a message, for a monitor or a follower: "rx_status 0x01, sequence 0"
 abbrev pub messageCopy : Message → Entry
-messageCopy m = rxEntry 0 CEC-RX-STATUS-OK m
+messageCopy m = rxEntry 0 CEC-RX-STATUS-OK m 0
 
 abbrev pub noEntry : Entry
-noEntry = rxEntry 0 0 noMessage
+noEntry = rxEntry 0 0 noMessage 0

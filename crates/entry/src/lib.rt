@@ -1,6 +1,6 @@
 // An entry of an inbox, one constructor for each kind.
 ghost use mathlib.Core.Path.{_≡_};
-ghost use Rattle.entry.specs.Entry.{noCounts, result, resultCopy, rxEntry, reply, featureAbortReply, timedOut, aborted, messageCopy, noEntry};
+ghost use Rattle.entry.specs.Entry.{noCounts, result, resultCopy, rxEntry, matched, reply, featureAbortReply, timedOut, aborted, messageCopy, noEntry};
 use constants::CEC_RX_STATUS_ABORTED;
 use constants::CEC_RX_STATUS_FEATURE_ABORT;
 use constants::CEC_RX_STATUS_OK;
@@ -23,6 +23,7 @@ pub struct Entry {
     pub rx_status: u8,
     pub message: Message,
     pub counts: Counts,
+    pub reply: u8,
 }
 
 impl Counts {
@@ -49,6 +50,7 @@ impl Entry {
             rx_status: 0,
             message: sent,
             counts: counts,
+            reply: 0,
         }
     }
 
@@ -59,9 +61,9 @@ impl Entry {
         Entry::result(0, status, counts, sent)
     }
 
-    // A receive status and a message alone.
-    fn rx_entry(sequence: u32, status: u8, message: Message) -> Entry
-        ensures { λ r. ⌜ r ≡ rxEntry sequence status message ⌝ }
+    // A receive status, a message and the opcode of a reply alone.
+    fn rx_entry(sequence: u32, status: u8, message: Message, reply: u8) -> Entry
+        ensures { λ r. ⌜ r ≡ rxEntry sequence status message reply ⌝ }
     {
         Entry {
             sequence: sequence,
@@ -69,49 +71,57 @@ impl Entry {
             rx_status: status,
             message: message,
             counts: Counts::none(),
+            reply: reply,
         }
+    }
+
+    // A message that came as the reply, with its opcode.
+    fn matched(sequence: u32, status: u8, came: Message) -> Entry
+        ensures { λ r. ⌜ r ≡ matched sequence status came ⌝ }
+    {
+        Entry::rx_entry(sequence, status, came, came.opcode())
     }
 
     pub fn reply(sequence: u32, came: Message) -> Entry
         ensures { λ r. ⌜ r ≡ reply sequence came ⌝ }
     {
-        Entry::rx_entry(sequence, CEC_RX_STATUS_OK, came)
+        Entry::matched(sequence, CEC_RX_STATUS_OK, came)
     }
 
     pub fn feature_abort_reply(sequence: u32, came: Message) -> Entry
         ensures { λ r. ⌜ r ≡ featureAbortReply sequence came ⌝ }
     {
-        Entry::rx_entry(
+        Entry::matched(
             sequence,
             CEC_RX_STATUS_OK + CEC_RX_STATUS_FEATURE_ABORT,
             came,
         )
     }
 
-    // No reply came in time.
-    pub fn timed_out(sequence: u32, sent: Message) -> Entry
-        ensures { λ r. ⌜ r ≡ timedOut sequence sent ⌝ }
+    // No reply came in time: the entry shows the opcode that was wanted.
+    pub fn timed_out(sequence: u32, sent: Message, wanted: u8) -> Entry
+        ensures { λ r. ⌜ r ≡ timedOut sequence sent wanted ⌝ }
     {
-        Entry::rx_entry(sequence, CEC_RX_STATUS_TIMEOUT, sent)
+        Entry::rx_entry(sequence, CEC_RX_STATUS_TIMEOUT, sent, wanted)
     }
 
     // The wait for a reply was given up.
-    pub fn aborted(sequence: u32, sent: Message) -> Entry
-        ensures { λ r. ⌜ r ≡ aborted sequence sent ⌝ }
+    pub fn aborted(sequence: u32, sent: Message, wanted: u8) -> Entry
+        ensures { λ r. ⌜ r ≡ aborted sequence sent wanted ⌝ }
     {
-        Entry::rx_entry(sequence, CEC_RX_STATUS_ABORTED, sent)
+        Entry::rx_entry(sequence, CEC_RX_STATUS_ABORTED, sent, wanted)
     }
 
     // The copy of a message, for a follower or a monitor.
     pub fn message_copy(came: Message) -> Entry
         ensures { λ r. ⌜ r ≡ messageCopy came ⌝ }
     {
-        Entry::rx_entry(0, CEC_RX_STATUS_OK, came)
+        Entry::rx_entry(0, CEC_RX_STATUS_OK, came, 0)
     }
 
     pub fn none() -> Entry
         ensures { λ r. ⌜ r ≡ noEntry ⌝ }
     {
-        Entry::rx_entry(0, 0, Message::new(0, [0; 16]))
+        Entry::rx_entry(0, 0, Message::new(0, [0; 16]), 0)
     }
 }

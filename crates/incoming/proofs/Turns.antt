@@ -5,6 +5,8 @@ use mathlib.Core.Bool.{Bool, true, false, cond, not, _&&_, _||_}
 use mathlib.Core.List.{List}
 use mathlib.Core.Path.{_≡_, refl, sym, ap, _∙_}
 use lib.Dec.{eqb}
+use lib.ListN.{length}
+use borrow.Author.Tests.{ltb-true}
 use Rattle.constants.specs.Kernel.{CEC-OP-ABORT-UNRECOGNIZED-OP}
 use Rattle.copies.proofs.Turns.{copies-none}
 use Rattle.copies.specs.Kinds.{getsCopies, NOBODY}
@@ -15,25 +17,26 @@ use Rattle.handle.specs.declared.Handle.{Handle}
 use Rattle.incoming.proofs.Alike.{Alike, alike-trans, replied-alike, notes-alike, answers-alike, followed-alike, copies-alike}
 use Rattle.incoming.proofs.Copied.{copies-waits, followers-same}
 use Rattle.incoming.proofs.Receivers.{no-followers, nobody-copies, receivers-copies}
-use Rattle.incoming.specs.Steps.{followerKind, goesOn, notedAt, receiversOf}
+use Rattle.incoming.specs.Steps.{followerKind, goesOn, notedAt, receiversOf, replyEntryBy}
 use Rattle.incoming.specs.Work.{chosenFor, toDoOf}
 use Rattle.incoming.specs.declared.ToDo.{ToDo}
-use Rattle.lists.specs.Places.{first, without}
+use Rattle.lists.specs.Places.{first, first-passes, without}
 use Rattle.lists.specs.Sums.{any}
 use Rattle.lists.specs.Tests.{clash, cond-same, split}
 use Rattle.lists.specs.Vector.{put}
 use Rattle.message.specs.Message.{destination, opcode, isFeatureAbort}
 use Rattle.message.specs.declared.Message.{Message}
+use Rattle.rules.proofs.Shown.{rule-abort}
 use Rattle.rules.specs.Core.{answers, isDirected, isNoted, isRegistered, notes, sends}
 use Rattle.rules.specs.Deliver.{copies, deliver}
 use Rattle.rules.specs.Features.{answerFor, isAnswered}
 use Rattle.rules.specs.Handles.{inRole, isConfigured, isHere, someone, isExclusiveFollower, isFollower, isPassthrough}
-use Rattle.rules.specs.Incoming.{followed, handled, heard, heardWith, monitors, refusedMessage, replied, replyEntry, stops}
+use Rattle.rules.specs.Incoming.{followed, handled, heard, heardWith, monitors, refusedMessage, replied, stops}
 use Rattle.settings.specs.declared.Settings.{Settings}
 use Rattle.rules.specs.State.{State, withNoted, withQueue, withWaits}
 use Rattle.steps.specs.declared.Chosen.{Chosen}
 use Rattle.transmission.specs.Transmission.{ownerless}
-use Rattle.wait.specs.Wait.{answeredBy}
+use Rattle.wait.specs.Wait.{answeredBy, noWait}
 use Rattle.waits.specs.Waits.{Taken, matchTaken, takenAt}
 
 -- what `rules: sends` does, with a message
@@ -76,7 +79,7 @@ alone false false false noted d r o e = (refl, refl)
 
 -- what is to be done, done
 abbrev pub doReply : ToDo → Message → State → State
-doReply x m s = cond (x .replies) (deliver (withWaits s (without (x .wait) (s .waits))) (x .owner) (replyEntry (x .sequence) m)) s
+doReply x m s = cond (x .replies) (deliver (withWaits s (without (x .wait) (s .waits))) (x .owner) (replyEntryBy (x .rule) (x .sequence) m)) s
 
 abbrev pub doNote : ToDo → Message → State → State
 doNote x m s = cond (x .notes) (withNoted s (notedAt (s .noted) m)) s
@@ -160,6 +163,16 @@ module _ (s : State) (t : Taken) (m : Message) where
       ∙ sent-in-order answer abort kind e (chosen .answers) (chosen .aborts) (chosen .copies) b answer-alone (λ z. rw h (no-followers (chosen .exclusive) (s .handles) (abort-alone z .1)))
       ∙ in-order b k
 
+-- the wait that ends is one that the message answers, and so the rule tells the entry
+reply-step : (s : State) (m : Message) → doReply (toDoOf s true m) m s ≡ replied s (takenAt (first (answeredBy m) (s .waits)) (s .waits)) m
+reply-step s m =
+    let t = takenAt (first (answeredBy m) (s .waits)) (s .waits) in
+    split (t .found)
+    (λ q.
+    let met = first-passes (answeredBy m) (s .waits) noWait (ltb-true (first (answeredBy m) (s .waits)) (length (s .waits)) q) in
+    rw (q, rule-abort m (t .wait) met))
+    (λ q. rw q)
+
 pub done-all : (s : State) (further : Bool) (m : Message) → doAll (toDoOf s further m) m s ≡ cond further (handled s (isAnswered s m) (answerFor (s .settings) m) (matchTaken m (s .waits)) m) s
 unfolding matchTaken notes
 done-all s false m = sym (nobody-copies NOBODY (messageCopy m) s refl)
@@ -170,7 +183,9 @@ done-all s true m =
     let k = alike-trans s a b (replied-alike s t m) (notes-alike a m) in
     let h = noted-kept s t m a .0 ∙ replied-kept s t m .0 in
     let c = noted-kept s t m a .1 ∙ replied-kept s t m .1 in
-    sent-steps s t m b (doSend (toDoOf s true m) b) k h (rw c)
+    let x = toDoOf s true m in
+    ap (λ (z : State). doCopies x m (doSend x (doNote x m z))) (reply-step s m)
+    ∙ sent-steps s t m b (doSend x b) k h (rw c)
 
 -- steps 1 and 2
 not-stops : (a b c : Bool) → (a && not b && c) ≡ not (not a || b || not c)

@@ -6,9 +6,12 @@ use mathlib.Core.List.{List}
 use lib.Dec.{eqb}
 use lib.ListN.{set}
 use Rattle.copies.specs.Kinds.{getsCopies, EXCLUSIVE-FOLLOWER, FOLLOWERS, MONITORS, MONITORS-OF-ALL, NOBODY}
+use Rattle.entry.specs.Entry.{reply, featureAbortReply}
+use Rattle.entry.specs.declared.Entry.{Entry}
 use Rattle.handle.specs.declared.Handle.{Handle}
 use Rattle.lists.specs.Sums.{any}
 use Rattle.message.specs.Message.{destination, initiator, addressAt}
+use Rattle.message.specs.Rule.{FEATURE-ABORT}
 use Rattle.message.specs.declared.Message.{Message}
 use Rattle.rules.specs.Handles.{inRole, isConfigured, isHere}
 use Rattle.rules.specs.State.{State}
@@ -24,6 +27,10 @@ followerKind exclusive = cond exclusive EXCLUSIVE-FOLLOWER FOLLOWERS
 -- nobody, if there are to be no copies, or no handle is of the kind
 abbrev pub receiversOf : Bool → List Handle → ℕ → ℕ
 receiversOf copied hs kind = cond (copied && any (inRole (getsCopies kind)) hs) kind NOBODY
+
+-- `rules: replyEntry`, by the rule of the match
+abbrev pub replyEntryBy : ℕ → ℕ → Message → Entry
+replyEntryBy rule number m = cond (eqb rule FEATURE-ABORT) (featureAbortReply number m) (reply number m)
 
 -- not `rules: stops`
 abbrev pub goesOn : State → Message → Bool

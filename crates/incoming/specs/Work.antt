@@ -10,7 +10,7 @@ use Rattle.message.specs.declared.Message.{Message}
 use Rattle.rules.specs.State.{State}
 use Rattle.steps.specs.Steps.{chosenOf}
 use Rattle.steps.specs.declared.Chosen.{Chosen}
-use Rattle.wait.specs.Wait.{answeredBy}
+use Rattle.wait.specs.Wait.{answeredBy, ruleFor}
 use Rattle.waits.specs.Waits.{Taken, takenAt}
 
 -- the steps' tests, from a state and the wait that the message ends
@@ -21,6 +21,7 @@ chosenFor s t m = chosenOf (s .handles) (workOf (s .settings) m) (t .found) (t .
 abbrev pub toDoAt : State → Bool → Message → Taken → Chosen → ToDo
 toDoAt s further m t x = record {
   replies = further && t .found;
+  rule = ruleFor m (t .wait);
   wait = first (answeredBy m) (s .waits);
   owner = t .wait .owner;
   sequence = t .wait .sequence;

@@ -21,14 +21,16 @@ use copies::NOBODY;
 use entry::Entry;
 use inbox::count_at;
 use message::Message;
+use message::reply::NO_MATCH;
 use parts::Done;
 use parts::Parts;
 use parts::check;
 use transmission::Transmission;
 
-// What is to be done in steps 3 to 6: whether the wait at a place ends with a reply, whether an address is noted, whether the core sends a message, and who gets copies.
+// What is to be done in steps 3 to 6: whether the wait at a place ends with a reply, and by which rule, whether an address is noted, whether the core sends a message, and who gets copies.
 struct ToDo {
     replies: bool,
+    rule: u8,
     wait: usize,
     owner: u8,
     sequence: u32,
@@ -80,15 +82,16 @@ fn later_steps(parts: Parts, further: bool, message: Message) -> ToDo
     ensures { λ r. ⌜ r ≡ toDoOf (stateOf parts) further message ⌝ }
 {
     let waits = parts.waits;
-    let at = waits.first_match(message);
-    let found = at < waits.count();
-    let wait = waits.at(at);
+    let matched = waits.first_match(message);
+    let found = matched.rule != NO_MATCH;
+    let wait = waits.at(matched.place);
     let work = core::work_for(parts.settings, message);
     let handles = parts.handles;
     let chosen = steps::choose(handles, work, found, wait.to_followers, message);
     ToDo {
         replies: further & found,
-        wait: at,
+        rule: matched.rule,
+        wait: matched.place,
         owner: wait.owner,
         sequence: wait.sequence,
         notes: further & chosen.notes,
@@ -132,7 +135,7 @@ pub fn message(mut parts: Parts, length: u8, bytes: [u8; 16]) -> Done
         let n = count_at(parts.counts, to_do.owner);
         let h = to_do.owner as usize;
         if (h < 8) & (n < 16) {
-            parts.entries[16 * h + n] = step::reply_entry(to_do.sequence, message);
+            parts.entries[16 * h + n] = step::reply_entry(to_do.rule, to_do.sequence, message);
             parts.counts[h] = n + 1;
         }
     }

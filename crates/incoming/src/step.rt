@@ -4,20 +4,19 @@ ghost use mathlib.Core.Path.{_≡_};
 ghost use Rattle.constants.specs.Kernel.{CEC-OP-ABORT-UNRECOGNIZED-OP};
 ghost use Rattle.core.specs.Work.{messageOf, abortOf};
 ghost use Rattle.handles.specs.Roles.{handlesOf};
-ghost use Rattle.incoming.specs.Steps.{notedAt, receiversOf};
-ghost use Rattle.rules.specs.Incoming.{replyEntry};
-use constants::CEC_MSG_FEATURE_ABORT;
+ghost use Rattle.incoming.specs.Steps.{notedAt, receiversOf, replyEntryBy};
 use constants::CEC_OP_ABORT_UNRECOGNIZED_OP;
 use copies::NOBODY;
 use entry::Entry;
 use handles::Handles;
 use message::Message;
+use message::reply::FEATURE_ABORT;
 
 // A Feature Abort is a reply too, with a bit of its own in the status.
-pub fn reply_entry(sequence: u32, message: Message) -> Entry
-    ensures { λ r. ⌜ r ≡ replyEntry sequence message ⌝ }
+pub fn reply_entry(rule: u8, sequence: u32, message: Message) -> Entry
+    ensures { λ r. ⌜ r ≡ replyEntryBy rule sequence message ⌝ }
 {
-    if message.opcode() == CEC_MSG_FEATURE_ABORT {
+    if rule == FEATURE_ABORT {
         Entry::feature_abort_reply(sequence, message)
     } else {
         Entry::reply(sequence, message)

@@ -2,15 +2,24 @@
 ghost use mathlib.Core.Path.{_≡_};
 ghost use lib.ListN.{getD};
 ghost use Rattle.message.specs.Message.{contents};
-ghost use Rattle.lists.specs.Tests.{bit};
-ghost use Rattle.message.specs.Prefix.{prefixOf, prefixesMatch};
-ghost use Rattle.message.specs.Reply.{hasOpcode, fromDestination, toInitiator, abortsSent, isWanted, isArcReport, isArcPair, isAnswer, isReply};
+ghost use Rattle.message.specs.Prefix.{areBetween, prefixOf, prefixRule};
+ghost use Rattle.message.specs.Reply.{hasOpcode, fromDestination, toInitiator, abortsSent, isWanted, isArcReport, isArcPair};
+ghost use Rattle.message.specs.Rule.{firstRule, answerRule, replyRule};
 use crate::Message;
 use constants::CEC_LOG_ADDR_BROADCAST;
 use constants::CEC_MSG_FEATURE_ABORT;
 use constants::CEC_MSG_INITIATE_ARC;
 use constants::CEC_MSG_REPORT_ARC_INITIATED;
 use constants::CEC_MSG_REPORT_ARC_TERMINATED;
+
+// The rule by which a message is a reply.
+pub const NO_MATCH: u8 = 0;
+
+pub const FEATURE_ABORT: u8 = 1;
+
+pub const WANTED_OPCODE: u8 = 2;
+
+pub const ARC_PAIR: u8 = 3;
 
 fn has_opcode(length: usize) -> bool
     ensures { λ r. ⌜ r ≡ hasOpcode length ⌝ }
@@ -54,12 +63,27 @@ fn is_arc_pair(sent: u8, came: u8, wanted: u8) -> bool
     (sent == CEC_MSG_INITIATE_ARC) & is_arc_report(wanted) & is_arc_report(came)
 }
 
-fn is_answer(sent: u8, came: u8, length: usize, third: u8, wanted: u8) -> bool
-    ensures { λ r. ⌜ r ≡ isAnswer sent came length third wanted ⌝ }
+// The first that holds, in this order.
+fn first_rule(aborts: bool, wanted: bool, pair: bool) -> u8
+    ensures { λ r. ⌜ r ≡ firstRule aborts wanted pair ⌝ }
 {
-    aborts_sent(sent, came, length, third)
-        | is_wanted(came, wanted)
-        | is_arc_pair(sent, came, wanted)
+    if aborts {
+        return FEATURE_ABORT;
+    }
+    if wanted {
+        return WANTED_OPCODE;
+    }
+    if pair { ARC_PAIR } else { NO_MATCH }
+}
+
+fn answer_rule(sent: u8, came: u8, length: usize, third: u8, wanted: u8) -> u8
+    ensures { λ r. ⌜ r ≡ answerRule sent came length third wanted ⌝ }
+{
+    first_rule(
+        aborts_sent(sent, came, length, third),
+        is_wanted(came, wanted),
+        is_arc_pair(sent, came, wanted),
+    )
 }
 
 // The byte at a place, 0 past the end.
@@ -88,14 +112,23 @@ fn prefix_of(s: &[u8]) -> Prefix
     }
 }
 
-fn prefixes_match(sent: Prefix, came: Prefix, wanted: u8) -> bool
-    ensures { λ r. ⌜ r ≡ prefixesMatch sent came wanted ⌝ }
+fn are_between(sent: Prefix, came: Prefix) -> bool
+    ensures { λ r. ⌜ r ≡ areBetween sent came ⌝ }
 {
     has_opcode(sent.length)
         & has_opcode(came.length)
         & from_destination(sent.first, came.first)
         & to_initiator(sent.first, came.first)
-        & is_answer(sent.second, came.second, came.length, came.third, wanted)
+}
+
+fn prefix_rule(sent: Prefix, came: Prefix, wanted: u8) -> u8
+    ensures { λ r. ⌜ r ≡ prefixRule sent came wanted ⌝ }
+{
+    if are_between(sent, came) {
+        answer_rule(sent.second, came.second, came.length, came.third, wanted)
+    } else {
+        NO_MATCH
+    }
 }
 
 impl Message {
@@ -110,18 +143,18 @@ impl Message {
         }
     }
 
-    // Whether this message is the reply to the one that was sent, with this opcode wanted.
-    pub fn is_reply(self, sent: Message, wanted: u8) -> bool
-        ensures { λ r. ⌜ r ≡ isReply (contents sent) (contents self) wanted ⌝ }
+    // The rule by which this message is the reply to the one that was sent, with this opcode wanted.
+    pub fn reply_rule(self, sent: Message, wanted: u8) -> u8
+        ensures { λ r. ⌜ r ≡ replyRule (contents sent) (contents self) wanted ⌝ }
     {
-        prefixes_match(sent.prefix(), self.prefix(), wanted)
+        prefix_rule(sent.prefix(), self.prefix(), wanted)
     }
 }
 
-// The test for the C driver: 1 for a match, 0 for none.
+// The test for the C driver: the rule, 1 to 3, and 0 for no match.
 #[no_mangle]
 pub extern "C" fn cec_reply_match(sent: &[u8], received: &[u8], wanted: u8) -> u8
-    ensures { λ r. ⌜ r ≡ bit (isReply (now (sent .entry)) (now (received .entry)) wanted) ⌝ }
+    ensures { λ r. ⌜ r ≡ replyRule (now (sent .entry)) (now (received .entry)) wanted ⌝ }
 {
-    prefixes_match(prefix_of(sent), prefix_of(received), wanted) as u8
+    prefix_rule(prefix_of(sent), prefix_of(received), wanted)
 }

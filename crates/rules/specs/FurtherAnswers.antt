@@ -1,4 +1,4 @@
--- More answers, worked out by hand from document 01, a table for each section, and from W-203 and W-205: the known answers that are not starred, the checks of each call, and places that can be read in two ways.
+-- More answers, worked out by hand from document 01, a table for each section, and from W-203, W-205 and W-207: the known answers that are not starred, the checks of each call, and places that can be read in two ways.
 -- Assumes nothing.
 use Prim.Native.Nat.{ℕ, zero, suc, _-_}
 use mathlib.Core.Bool.{Bool, true, false}
@@ -57,12 +57,12 @@ abbrev pub sentFirst : ℕ → List Call → List Call
 sentFirst zero cs = cs
 sentFirst (suc n) cs = callBusStart ∷ ok ∷ sentFirst n cs
 
--- what a bus start gives for these bytes, and a receive for an entry without counts: number, tx_status, rx_status and length
+-- what a bus start gives for these bytes, and a receive for an entry without counts: number, tx_status, rx_status, length and opcode of the reply
 abbrev pub out : List ℕ → List ℕ
 out bytes = 0 ∷ length bytes ∷ bytes ++ replicate (16 - length bytes) 0
 
-abbrev pub got : ℕ → ℕ → ℕ → ℕ → List ℕ
-got number tx rx size = 0 ∷ number ∷ tx ∷ rx ∷ size ∷ 0 ∷ 0 ∷ 0 ∷ 0 ∷ []
+abbrev pub got : ℕ → ℕ → ℕ → ℕ → ℕ → List ℕ
+got number tx rx size reply = 0 ∷ number ∷ tx ∷ rx ∷ size ∷ 0 ∷ 0 ∷ 0 ∷ 0 ∷ reply ∷ []
 
 -- handles, inboxes and the listing ("The adapter's parts")
 abbrev pub handleAnswers : List Case
@@ -193,39 +193,39 @@ busAnswers =
     ∷ record { start = bench true; calls = plain 0 ∷ callBusStart ∷ callBusStart ∷ []; gives = EBUSY ∷ [] }
     -- counts whose bit is clear are 0, and a status of two ends
     ∷ record { start = bench true; calls = plain 0 ∷ callBusStart ∷ callBusResult 0x25 (record { «arb_lost» = 1; nack = 2; «low_drive» = 3; error = 4 }) ∷ []; gives = EINVAL ∷ [] }
-    ∷ record { start = bench true; calls = plain 0 ∷ callBusStart ∷ callBusResult 0x26 (record { «arb_lost» = 1; nack = 2; «low_drive» = 3; error = 4 }) ∷ callReceive 0 ∷ []; gives = 0 ∷ 1 ∷ 0x26 ∷ 0 ∷ 2 ∷ 1 ∷ 2 ∷ 0 ∷ 0 ∷ [] }
+    ∷ record { start = bench true; calls = plain 0 ∷ callBusStart ∷ callBusResult 0x26 (record { «arb_lost» = 1; nack = 2; «low_drive» = 3; error = 4 }) ∷ callReceive 0 ∷ []; gives = 0 ∷ 1 ∷ 0x26 ∷ 0 ∷ 2 ∷ 1 ∷ 2 ∷ 0 ∷ 0 ∷ 0 ∷ [] }
     -- a result, and the copy that a monitor gets before it
-    ∷ record { start = bench true; calls = plain 0 ∷ callMode 0 0xE0 ∷ callBusStart ∷ callBusResult 0x22 noCounts ∷ callReceive 0 ∷ []; gives = got 0 0x22 0x00 2 }
-    ∷ record { start = bench true; calls = plain 0 ∷ callMode 0 0xE0 ∷ callBusStart ∷ callBusResult 0x22 noCounts ∷ callReceive 0 ∷ callReceive 0 ∷ []; gives = got 1 0x22 0x00 2 }
+    ∷ record { start = bench true; calls = plain 0 ∷ callMode 0 0xE0 ∷ callBusStart ∷ callBusResult 0x22 noCounts ∷ callReceive 0 ∷ []; gives = got 0 0x22 0x00 2 0x00 }
+    ∷ record { start = bench true; calls = plain 0 ∷ callMode 0 0xE0 ∷ callBusStart ∷ callBusResult 0x22 noCounts ∷ callReceive 0 ∷ callReceive 0 ∷ []; gives = got 1 0x22 0x00 2 0x00 }
     -- no wait without the OK bit
     ∷ record { start = bench true; calls = asking 0 ∷ callBusStart ∷ callBusResult 0x20 noCounts ∷ callReceive 0 ∷ callTime 1000 ∷ callReceive 0 ∷ []; gives = EAGAIN ∷ [] }
     -- with the OK bit beside another
-    ∷ record { start = bench true; calls = asking 0 ∷ callBusStart ∷ callBusResult 0x05 noCounts ∷ callReceive 0 ∷ callTime 1000 ∷ callReceive 0 ∷ []; gives = got 1 0x00 0x02 2 }
+    ∷ record { start = bench true; calls = asking 0 ∷ callBusStart ∷ callBusResult 0x05 noCounts ∷ callReceive 0 ∷ callTime 1000 ∷ callReceive 0 ∷ []; gives = got 1 0x00 0x02 2 0x90 }
     ∷ []
 
 -- time
 abbrev pub timeAnswers : List Case
 timeAnswers =
     -- time ends the least time left first
-    record { start = bench true; calls = sending (0x40 ∷ 0x8F ∷ []) 0x90 500 0 ∷ sending (0x40 ∷ 0x8F ∷ []) 0x90 300 0 ∷ callBusStart ∷ ok ∷ callBusStart ∷ ok ∷ callReceive 0 ∷ callReceive 0 ∷ callTime 500 ∷ callReceive 0 ∷ []; gives = got 2 0x00 0x02 2 }
+    record { start = bench true; calls = sending (0x40 ∷ 0x8F ∷ []) 0x90 500 0 ∷ sending (0x40 ∷ 0x8F ∷ []) 0x90 300 0 ∷ callBusStart ∷ ok ∷ callBusStart ∷ ok ∷ callReceive 0 ∷ callReceive 0 ∷ callTime 500 ∷ callReceive 0 ∷ []; gives = got 2 0x00 0x02 2 0x90 }
     ∷ record { start = bench true; calls = sending (0x40 ∷ 0x8F ∷ []) 0x90 500 0 ∷ sending (0x40 ∷ 0x8F ∷ []) 0x90 300 0 ∷ callBusStart ∷ ok ∷ callBusStart ∷ ok ∷ callReceive 0 ∷ callReceive 0 ∷ callTime 299 ∷ callReceive 0 ∷ []; gives = EAGAIN ∷ [] }
-    ∷ record { start = bench true; calls = sending (0x40 ∷ 0x8F ∷ []) 0x90 500 0 ∷ sending (0x40 ∷ 0x8F ∷ []) 0x90 300 0 ∷ callBusStart ∷ ok ∷ callBusStart ∷ ok ∷ callReceive 0 ∷ callReceive 0 ∷ callTime 299 ∷ callTime 1 ∷ callReceive 0 ∷ []; gives = got 2 0x00 0x02 2 }
+    ∷ record { start = bench true; calls = sending (0x40 ∷ 0x8F ∷ []) 0x90 500 0 ∷ sending (0x40 ∷ 0x8F ∷ []) 0x90 300 0 ∷ callBusStart ∷ ok ∷ callBusStart ∷ ok ∷ callReceive 0 ∷ callReceive 0 ∷ callTime 299 ∷ callTime 1 ∷ callReceive 0 ∷ []; gives = got 2 0x00 0x02 2 0x90 }
     ∷ record { start = bench true; calls = sending (0x40 ∷ 0x8F ∷ []) 0x90 500 0 ∷ sending (0x40 ∷ 0x8F ∷ []) 0x90 300 0 ∷ callBusStart ∷ ok ∷ callBusStart ∷ ok ∷ callReceive 0 ∷ callReceive 0 ∷ callTime 300 ∷ callReceive 0 ∷ callReceive 0 ∷ []; gives = EAGAIN ∷ [] }
     -- time in the queue and on the wire does not count
     ∷ record { start = bench true; calls = asking 0 ∷ callTime 500 ∷ callBusStart ∷ ok ∷ callReceive 0 ∷ callTime 500 ∷ callReceive 0 ∷ []; gives = EAGAIN ∷ [] }
     ∷ record { start = bench true; calls = asking 0 ∷ callBusStart ∷ callTime 500 ∷ ok ∷ callReceive 0 ∷ callTime 500 ∷ callReceive 0 ∷ []; gives = EAGAIN ∷ [] }
     -- timeout 0 is 1000 ms, from the result on
     ∷ record { start = bench true; calls = asking 0 ∷ callTime 5000 ∷ callBusStart ∷ ok ∷ callReceive 0 ∷ callTime 999 ∷ callReceive 0 ∷ []; gives = EAGAIN ∷ [] }
-    ∷ record { start = bench true; calls = asking 0 ∷ callTime 5000 ∷ callBusStart ∷ ok ∷ callReceive 0 ∷ callTime 1000 ∷ callReceive 0 ∷ []; gives = got 1 0x00 0x02 2 }
+    ∷ record { start = bench true; calls = asking 0 ∷ callTime 5000 ∷ callBusStart ∷ ok ∷ callReceive 0 ∷ callTime 1000 ∷ callReceive 0 ∷ []; gives = got 1 0x00 0x02 2 0x90 }
     ∷ []
 
 -- configure, unconfigure, close
 abbrev pub configurationAnswers : List Case
 configurationAnswers =
     -- unconfigure ends what is on the wire, queued and waiting
-    record { start = bench true; calls = asking 0 ∷ callBusStart ∷ ok ∷ callReceive 0 ∷ asking 0 ∷ plain 0 ∷ callBusStart ∷ callUnconfigure ∷ callReceive 0 ∷ []; gives = got 2 0x40 0x00 2 }
-    ∷ record { start = bench true; calls = asking 0 ∷ callBusStart ∷ ok ∷ callReceive 0 ∷ asking 0 ∷ plain 0 ∷ callBusStart ∷ callUnconfigure ∷ callReceive 0 ∷ callReceive 0 ∷ []; gives = got 3 0x40 0x00 2 }
-    ∷ record { start = bench true; calls = asking 0 ∷ callBusStart ∷ ok ∷ callReceive 0 ∷ asking 0 ∷ plain 0 ∷ callBusStart ∷ callUnconfigure ∷ callReceive 0 ∷ callReceive 0 ∷ callReceive 0 ∷ []; gives = got 1 0x00 0x08 2 }
+    record { start = bench true; calls = asking 0 ∷ callBusStart ∷ ok ∷ callReceive 0 ∷ asking 0 ∷ plain 0 ∷ callBusStart ∷ callUnconfigure ∷ callReceive 0 ∷ []; gives = got 2 0x40 0x00 2 0x00 }
+    ∷ record { start = bench true; calls = asking 0 ∷ callBusStart ∷ ok ∷ callReceive 0 ∷ asking 0 ∷ plain 0 ∷ callBusStart ∷ callUnconfigure ∷ callReceive 0 ∷ callReceive 0 ∷ []; gives = got 3 0x40 0x00 2 0x00 }
+    ∷ record { start = bench true; calls = asking 0 ∷ callBusStart ∷ ok ∷ callReceive 0 ∷ asking 0 ∷ plain 0 ∷ callBusStart ∷ callUnconfigure ∷ callReceive 0 ∷ callReceive 0 ∷ callReceive 0 ∷ []; gives = got 1 0x00 0x08 2 0x90 }
     ∷ record { start = bench true; calls = asking 0 ∷ callBusStart ∷ callUnconfigure ∷ ok ∷ []; gives = EINVAL ∷ [] }
     -- a reopened handle gets nothing of the old holder
     ∷ record { start = bench true; calls = asking 0 ∷ callBusStart ∷ ok ∷ callClose 0 ∷ callOpen true ∷ incoming (0x04 ∷ 0x90 ∷ 0x00 ∷ []) ∷ callReceive 0 ∷ []; gives = EAGAIN ∷ [] }
@@ -258,26 +258,26 @@ abbrev pub messageAnswers : List Case
 messageAnswers =
     -- from the wire too, 16 bytes are taken, 17 are not
     record { start = bench true; calls = incoming (0x0F ∷ replicate 15 0xA0) ∷ []; gives = 0 ∷ [] }
-    ∷ record { start = bench true; calls = callMode 0 0xF0 ∷ incoming (0x0F ∷ replicate 15 0xA0) ∷ callReceive 0 ∷ []; gives = got 0 0x00 0x01 16 }
+    ∷ record { start = bench true; calls = callMode 0 0xF0 ∷ incoming (0x0F ∷ replicate 15 0xA0) ∷ callReceive 0 ∷ []; gives = got 0 0x00 0x01 16 0x00 }
     ∷ record { start = bench true; calls = incoming (0x0F ∷ replicate 16 0xA0) ∷ []; gives = EINVAL ∷ [] }
     ∷ record { start = bench true; calls = callMessage 17 (replicate 16 0) ∷ []; gives = EINVAL ∷ [] }
     ∷ record { start = bench true; calls = callMessage 0 (replicate 16 0) ∷ []; gives = EINVAL ∷ [] }
     -- a reply is no follower's, unless the flag was set
     ∷ record { start = bench true; calls = callOpen true ∷ callMode 1 0x11 ∷ asking 0 ∷ callBusStart ∷ ok ∷ incoming (0x04 ∷ 0x90 ∷ 0x00 ∷ []) ∷ callReceive 1 ∷ []; gives = EAGAIN ∷ [] }
-    ∷ record { start = bench true; calls = callOpen true ∷ callMode 1 0x11 ∷ sending (0x40 ∷ 0x8F ∷ []) 0x90 0 1 ∷ callBusStart ∷ ok ∷ incoming (0x04 ∷ 0x90 ∷ 0x00 ∷ []) ∷ callReceive 1 ∷ []; gives = got 0 0x00 0x01 3 }
+    ∷ record { start = bench true; calls = callOpen true ∷ callMode 1 0x11 ∷ sending (0x40 ∷ 0x8F ∷ []) 0x90 0 1 ∷ callBusStart ∷ ok ∷ incoming (0x04 ∷ 0x90 ∷ 0x00 ∷ []) ∷ callReceive 1 ∷ []; gives = got 0 0x00 0x01 3 0x00 }
     -- the oldest match alone
     ∷ record { start = bench true; calls = callOpen true ∷ callMode 1 0x11 ∷ asking 0 ∷ asking 1 ∷ callBusStart ∷ ok ∷ callBusStart ∷ ok ∷ callReceive 0 ∷ callReceive 1 ∷ incoming (0x04 ∷ 0x90 ∷ 0x00 ∷ []) ∷ callReceive 1 ∷ []; gives = EAGAIN ∷ [] }
-    ∷ record { start = bench true; calls = callOpen true ∷ callMode 1 0x11 ∷ asking 0 ∷ asking 1 ∷ callBusStart ∷ ok ∷ callBusStart ∷ ok ∷ callReceive 0 ∷ callReceive 1 ∷ incoming (0x04 ∷ 0x90 ∷ 0x00 ∷ []) ∷ incoming (0x04 ∷ 0x90 ∷ 0x00 ∷ []) ∷ callReceive 1 ∷ []; gives = got 2 0x00 0x01 3 }
+    ∷ record { start = bench true; calls = callOpen true ∷ callMode 1 0x11 ∷ asking 0 ∷ asking 1 ∷ callBusStart ∷ ok ∷ callBusStart ∷ ok ∷ callReceive 0 ∷ callReceive 1 ∷ incoming (0x04 ∷ 0x90 ∷ 0x00 ∷ []) ∷ incoming (0x04 ∷ 0x90 ∷ 0x00 ∷ []) ∷ callReceive 1 ∷ []; gives = got 2 0x00 0x01 3 0x90 }
     -- the exclusive follower alone
     ∷ record { start = bench true; calls = callOpen true ∷ callMode 0 0x11 ∷ callMode 1 0x21 ∷ incoming (0x04 ∷ 0xA0 ∷ []) ∷ callReceive 0 ∷ []; gives = EAGAIN ∷ [] }
-    ∷ record { start = bench true; calls = callOpen true ∷ callMode 0 0x11 ∷ callMode 1 0x21 ∷ incoming (0x04 ∷ 0xA0 ∷ []) ∷ callReceive 1 ∷ []; gives = got 0 0x00 0x01 2 }
+    ∷ record { start = bench true; calls = callOpen true ∷ callMode 0 0x11 ∷ callMode 1 0x21 ∷ incoming (0x04 ∷ 0xA0 ∷ []) ∷ callReceive 1 ∷ []; gives = got 0 0x00 0x01 2 0x00 }
     -- monitors
     ∷ record { start = bench true; calls = callMode 0 0xE0 ∷ incoming (0x05 ∷ 0xA0 ∷ []) ∷ callReceive 0 ∷ []; gives = EAGAIN ∷ [] }
-    ∷ record { start = bench true; calls = callMode 0 0xF0 ∷ incoming (0x05 ∷ 0xA0 ∷ []) ∷ callReceive 0 ∷ []; gives = got 0 0x00 0x01 2 }
-    ∷ record { start = bench true; calls = callMode 0 0xE0 ∷ incoming (0x05 ∷ 0xA0 ∷ []) ∷ incoming (0x0F ∷ 0xA0 ∷ []) ∷ callReceive 0 ∷ []; gives = got 0 0x00 0x01 2 }
+    ∷ record { start = bench true; calls = callMode 0 0xF0 ∷ incoming (0x05 ∷ 0xA0 ∷ []) ∷ callReceive 0 ∷ []; gives = got 0 0x00 0x01 2 0x00 }
+    ∷ record { start = bench true; calls = callMode 0 0xE0 ∷ incoming (0x05 ∷ 0xA0 ∷ []) ∷ incoming (0x0F ∷ 0xA0 ∷ []) ∷ callReceive 0 ∷ []; gives = got 0 0x00 0x01 2 0x00 }
     ∷ record { start = unconfigured; calls = callMode 0 0xE0 ∷ incoming (0x04 ∷ 0xA0 ∷ []) ∷ callReceive 0 ∷ []; gives = EAGAIN ∷ [] }
     -- the ARC pair: 0xC0 sent, one report wanted, the other came
-    ∷ record { start = bench true; calls = callTransmit 0 (request (0x40 ∷ 0xC0 ∷ []) 0xC1) ∷ callBusStart ∷ ok ∷ callReceive 0 ∷ incoming (0x04 ∷ 0xC2 ∷ []) ∷ callReceive 0 ∷ []; gives = got 1 0x00 0x01 2 }
+    ∷ record { start = bench true; calls = callTransmit 0 (request (0x40 ∷ 0xC0 ∷ []) 0xC1) ∷ callBusStart ∷ ok ∷ callReceive 0 ∷ incoming (0x04 ∷ 0xC2 ∷ []) ∷ callReceive 0 ∷ []; gives = got 1 0x00 0x01 2 0xC2 }
     ∷ record { start = bench true; calls = callTransmit 0 (request (0x40 ∷ 0xC3 ∷ []) 0xC1) ∷ callBusStart ∷ ok ∷ callReceive 0 ∷ incoming (0x04 ∷ 0xC2 ∷ []) ∷ callReceive 0 ∷ []; gives = EAGAIN ∷ [] }
     -- a follower that lost its copy is a follower: no Feature Abort
     ∷ record { start = bench true; calls = callMode 0 0x11 ∷ times 17 (incoming (0x04 ∷ 0xA0 ∷ [])) (callBusStart ∷ []); gives = EAGAIN ∷ [] }
@@ -307,7 +307,7 @@ coreAnswers =
     ∷ record { start = bench true; calls = incoming (0x04 ∷ []) ∷ callBusStart ∷ []; gives = EAGAIN ∷ [] }
     -- nor under passthrough, where the follower gets the question
     ∷ record { start = bench true; calls = callMode 0 0x31 ∷ incoming (0x04 ∷ 0x9F ∷ []) ∷ callBusStart ∷ []; gives = EAGAIN ∷ [] }
-    ∷ record { start = bench true; calls = callMode 0 0x31 ∷ incoming (0x04 ∷ 0x9F ∷ []) ∷ callReceive 0 ∷ []; gives = got 0 0x00 0x01 2 }
+    ∷ record { start = bench true; calls = callMode 0 0x31 ∷ incoming (0x04 ∷ 0x9F ∷ []) ∷ callReceive 0 ∷ []; gives = got 0 0x00 0x01 2 0x00 }
     -- a follower gets no question that was answered
     ∷ record { start = bench true; calls = callMode 0 0x11 ∷ incoming (0x04 ∷ 0x9F ∷ []) ∷ callReceive 0 ∷ []; gives = EAGAIN ∷ [] }
     -- Feature Abort where nobody follows
@@ -324,7 +324,7 @@ coreAnswers =
     ∷ record { start = bench true; calls = callLookup 15 ∷ []; gives = EINVAL ∷ [] }
     ∷ record { start = bench true; calls = incoming (0x0F ∷ 0x84 ∷ 0x20 ∷ 0x00 ∷ 0x04 ∷ []) ∷ callUnconfigure ∷ callLookup 0 ∷ []; gives = 0 ∷ 65535 ∷ [] }
     -- a reply that is a question too: delivered, answered, not copied even with the flag
-    ∷ record { start = bench true; calls = callOpen true ∷ callMode 1 0x11 ∷ sending (0x40 ∷ 0x9F ∷ []) 0x9F 0 1 ∷ callBusStart ∷ ok ∷ callReceive 0 ∷ incoming (0x04 ∷ 0x9F ∷ []) ∷ callReceive 0 ∷ []; gives = got 1 0x00 0x01 2 }
+    ∷ record { start = bench true; calls = callOpen true ∷ callMode 1 0x11 ∷ sending (0x40 ∷ 0x9F ∷ []) 0x9F 0 1 ∷ callBusStart ∷ ok ∷ callReceive 0 ∷ incoming (0x04 ∷ 0x9F ∷ []) ∷ callReceive 0 ∷ []; gives = got 1 0x00 0x01 2 0x9F }
     ∷ record { start = bench true; calls = callOpen true ∷ callMode 1 0x11 ∷ sending (0x40 ∷ 0x9F ∷ []) 0x9F 0 1 ∷ callBusStart ∷ ok ∷ callReceive 0 ∷ incoming (0x04 ∷ 0x9F ∷ []) ∷ callReceive 1 ∷ []; gives = EAGAIN ∷ [] }
     ∷ record { start = bench true; calls = callOpen true ∷ callMode 1 0x11 ∷ sending (0x40 ∷ 0x9F ∷ []) 0x9F 0 1 ∷ callBusStart ∷ ok ∷ callReceive 0 ∷ incoming (0x04 ∷ 0x9F ∷ []) ∷ callBusStart ∷ []; gives = out (0x40 ∷ 0x9E ∷ 0x05 ∷ []) }
     ∷ []
@@ -365,14 +365,14 @@ featureAnswers =
     ∷ record { start = version6 true; calls = callMode 0 0x11 ∷ incoming (0x04 ∷ 0xA5 ∷ []) ∷ callReceive 0 ∷ []; gives = EAGAIN ∷ [] }
     ∷ record { start = version6 true; calls = callMode 0 0x21 ∷ incoming (0x04 ∷ 0xA5 ∷ []) ∷ callReceive 0 ∷ []; gives = EAGAIN ∷ [] }
     ∷ record { start = version6 true; calls = callMode 0 0x21 ∷ incoming (0x04 ∷ 0xA5 ∷ []) ∷ callBusStart ∷ []; gives = out (0x4F ∷ 0xA6 ∷ 0x06 ∷ 0x10 ∷ 0x4A ∷ 0x23 ∷ []) }
-    ∷ record { start = version6 true; calls = callMode 0 0x31 ∷ incoming (0x04 ∷ 0xA5 ∷ []) ∷ callReceive 0 ∷ []; gives = got 0 0x00 0x01 2 }
+    ∷ record { start = version6 true; calls = callMode 0 0x31 ∷ incoming (0x04 ∷ 0xA5 ∷ []) ∷ callReceive 0 ∷ []; gives = got 0 0x00 0x01 2 0x00 }
     ∷ record { start = version6 true; calls = callMode 0 0x31 ∷ incoming (0x04 ∷ 0xA5 ∷ []) ∷ callBusStart ∷ []; gives = EAGAIN ∷ [] }
     -- A6 is no core message
     ∷ record { start = version6 true; calls = incoming (0x04 ∷ 0xA6 ∷ []) ∷ callBusStart ∷ []; gives = out (0x40 ∷ 0x00 ∷ 0xA6 ∷ 0x00 ∷ []) }
     -- with version 4 or 5 A5 is no core message, and unconfigure leaves nothing of a profile
     ∷ record { start = bench true; calls = incoming (0x04 ∷ 0xA5 ∷ []) ∷ callBusStart ∷ []; gives = out (0x40 ∷ 0x00 ∷ 0xA5 ∷ 0x00 ∷ []) }
     ∷ record { start = unconfigured; calls = profile 4 0 0 0 ∷ incoming (0x04 ∷ 0xA5 ∷ []) ∷ callBusStart ∷ []; gives = out (0x40 ∷ 0x00 ∷ 0xA5 ∷ 0x00 ∷ []) }
-    ∷ record { start = bench true; calls = callMode 0 0x11 ∷ incoming (0x04 ∷ 0xA5 ∷ []) ∷ callReceive 0 ∷ []; gives = got 0 0x00 0x01 2 }
+    ∷ record { start = bench true; calls = callMode 0 0x11 ∷ incoming (0x04 ∷ 0xA5 ∷ []) ∷ callReceive 0 ∷ []; gives = got 0 0x00 0x01 2 0x00 }
     ∷ record { start = version6 true; calls = callUnconfigure ∷ profile 5 0 0 0 ∷ incoming (0x04 ∷ 0xA5 ∷ []) ∷ callBusStart ∷ []; gives = out (0x40 ∷ 0x00 ∷ 0xA5 ∷ 0x00 ∷ []) }
     ∷ []
 
@@ -436,4 +436,33 @@ trackerAnswers =
     -- unconfigure clears it, and a later configure does not bring it back
     ∷ record { start = bench true; calls = incoming (0x0F ∷ 0x82 ∷ 0x10 ∷ 0x00 ∷ []) ∷ callUnconfigure ∷ telling []; gives = 0 ∷ 0xFFFF ∷ [] }
     ∷ record { start = bench true; calls = incoming (0x0F ∷ 0x82 ∷ 0x10 ∷ 0x00 ∷ []) ∷ callUnconfigure ∷ callConfigure benchSettings ∷ telling []; gives = 0 ∷ 0xFFFF ∷ [] }
+    ∷ []
+
+-- document 02, W-207: an opcode is sent to the TV with a reply wanted, a timeout and a flag, and its result is received; then other calls
+abbrev pub awaiting : ℕ → ℕ → ℕ → ℕ → List Call → List Call
+awaiting code reply timeout flags cs = sending (0x40 ∷ code ∷ []) reply timeout flags ∷ callBusStart ∷ ok ∷ callReceive 0 ∷ cs
+
+-- the opcode of the reply that an entry shows
+abbrev pub replyAnswers : List Case
+replyAnswers =
+    -- the one that came: the wanted one, the other of the pair, a Feature Abort
+    record { start = bench true; calls = awaiting 0xC0 0xC1 0 0 (incoming (0x04 ∷ 0xC1 ∷ []) ∷ callReceive 0 ∷ []); gives = got 1 0x00 0x01 2 0xC1 }
+    ∷ record { start = bench true; calls = awaiting 0xC0 0xC1 0 0 (incoming (0x04 ∷ 0xC2 ∷ []) ∷ callReceive 0 ∷ []); gives = got 1 0x00 0x01 2 0xC2 }
+    ∷ record { start = bench true; calls = awaiting 0xC0 0xC2 0 0 (incoming (0x04 ∷ 0xC1 ∷ []) ∷ callReceive 0 ∷ []); gives = got 1 0x00 0x01 2 0xC1 }
+    ∷ record { start = bench true; calls = awaiting 0xC0 0xC1 0 0 (incoming (0x04 ∷ 0x00 ∷ 0xC0 ∷ 0x04 ∷ []) ∷ callReceive 0 ∷ []); gives = got 1 0x00 0x05 4 0x00 }
+    -- the wanted one where none came: timeout, unconfigure
+    ∷ record { start = bench true; calls = awaiting 0xC0 0xC1 500 0 (callTime 500 ∷ callReceive 0 ∷ []); gives = got 1 0x00 0x02 2 0xC1 }
+    ∷ record { start = bench true; calls = awaiting 0xC0 0xC1 500 0 (callUnconfigure ∷ callReceive 0 ∷ []); gives = got 1 0x00 0x08 2 0xC1 }
+    -- a wait that only a Feature Abort ends: 0 was wanted
+    ∷ record { start = bench true; calls = awaiting 0x8F 0x00 500 0 (incoming (0x04 ∷ 0x00 ∷ 0x8F ∷ []) ∷ callReceive 0 ∷ []); gives = got 1 0x00 0x05 3 0x00 }
+    ∷ record { start = bench true; calls = awaiting 0x8F 0x00 500 0 (callTime 500 ∷ callReceive 0 ∷ []); gives = got 1 0x00 0x02 2 0x00 }
+    -- results show 0, those of unconfigure too, though a reply was wanted
+    ∷ record { start = bench true; calls = asking 0 ∷ callBusStart ∷ ok ∷ callReceive 0 ∷ []; gives = got 1 0x01 0x00 2 0x00 }
+    ∷ record { start = bench true; calls = asking 0 ∷ callUnconfigure ∷ callReceive 0 ∷ []; gives = got 1 0x40 0x00 2 0x00 }
+    -- copies show 0, those of a reply too: for a follower with the flag, for a monitor before the reply itself
+    ∷ record { start = bench true; calls = callOpen true ∷ callMode 1 0x11 ∷ awaiting 0x8F 0x90 0 1 (incoming (0x04 ∷ 0x90 ∷ 0x00 ∷ []) ∷ callReceive 1 ∷ []); gives = got 0 0x00 0x01 3 0x00 }
+    ∷ record { start = bench true; calls = awaiting 0x8F 0x90 0 0 (callMode 0 0xE0 ∷ incoming (0x04 ∷ 0x90 ∷ 0x00 ∷ []) ∷ callReceive 0 ∷ []); gives = got 0 0x00 0x01 3 0x00 }
+    ∷ record { start = bench true; calls = awaiting 0x8F 0x90 0 0 (callMode 0 0xE0 ∷ incoming (0x04 ∷ 0x90 ∷ 0x00 ∷ []) ∷ callReceive 0 ∷ callReceive 0 ∷ []); gives = got 1 0x00 0x01 3 0x90 }
+    -- a monitor's copy of the result of a transmit that wants a reply
+    ∷ record { start = bench true; calls = asking 0 ∷ callMode 0 0xE0 ∷ callBusStart ∷ ok ∷ callReceive 0 ∷ []; gives = got 0 0x01 0x00 2 0x00 }
     ∷ []

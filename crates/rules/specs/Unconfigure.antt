@@ -18,9 +18,9 @@ abortedResult t = result (t .sequence) CEC-TX-STATUS-ABORTED noCounts (t .messag
 abbrev pub abortTransmit : State → Transmission → State
 abortTransmit s t = deliver s (t .owner) (abortedResult t)
 
--- "then the waits, oldest first, with their number, rx_status 0x08, and the sent length and bytes"
+-- "then the waits, oldest first, with their number, rx_status 0x08, and the sent length and bytes", and the opcode wanted (document 02, W-207)
 abbrev pub abortEntry : Wait → Entry
-abortEntry w = aborted (w .sequence) (w .sent)
+abortEntry w = aborted (w .sequence) (w .sent) (w .reply)
 
 abbrev pub abortWait : State → Wait → State
 abortWait s w = deliver s (w .owner) (abortEntry w)

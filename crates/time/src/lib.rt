@@ -18,7 +18,7 @@ pub fn time(mut parts: Parts, ms: u32) -> Done
             let n = count_at(parts.counts, wait.owner);
             let h = wait.owner as usize;
             if (h < 8) & (n < 16) {
-                parts.entries[16 * h + n] = Entry::timed_out(wait.sequence, wait.sent);
+                parts.entries[16 * h + n] = Entry::timed_out(wait.sequence, wait.sent, wait.reply);
                 parts.counts[h] = n + 1;
             }
             ended = ended.waits.take_due(ms);

@@ -65,7 +65,10 @@ fn abort_queue(inboxes: Inboxes, queue: Queue) -> Inboxes
 fn abort_wait(inboxes: Inboxes, wait: Wait) -> Inboxes
     ensures { λ r. ⌜ inboxesOf r ≡ delivered (inboxesOf inboxes) (wait .owner) (abortEntry wait) ⌝ }
 {
-    inboxes.put(wait.owner, Entry::aborted(wait.sequence, wait.sent))
+    inboxes.put(
+        wait.owner,
+        Entry::aborted(wait.sequence, wait.sent, wait.reply),
+    )
 }
 
 // The waits end, oldest first.

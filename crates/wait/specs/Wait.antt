@@ -5,6 +5,7 @@ use mathlib.Core.Bool.{Bool, false}
 use lib.Dec.{eqb}
 use Rattle.message.specs.Message.{noMessage, contents}
 use Rattle.message.specs.Reply.{isReply}
+use Rattle.message.specs.Rule.{replyRule}
 use Rattle.message.specs.declared.Message.{Message}
 use Rattle.wait.specs.declared.Wait.{Wait}
 
@@ -20,6 +21,10 @@ numbered n w = eqb (w .sequence) n
 -- whether the message ends it: document 01's "A match"
 abbrev pub answeredBy : Message → Wait → Bool
 answeredBy m w = isReply (contents (w .sent)) (contents m) (w .reply)
+
+-- the rule by which it does (document 02, W-207); 0 if it does not
+abbrev pub ruleFor : Message → Wait → ℕ
+ruleFor m w = replyRule (contents (w .sent)) (contents m) (w .reply)
 
 -- its time left
 abbrev pub leftOf : Wait → ℕ

@@ -2,7 +2,7 @@
 ghost use Prim.Native.Nat.{_≤_};
 ghost use mathlib.Core.Path.{_≡_};
 ghost use Rattle.lists.specs.Tests.{bit};
-ghost use Rattle.wait.specs.Wait.{noWait, ownedBy, answeredBy, reduced};
+ghost use Rattle.wait.specs.Wait.{noWait, ownedBy, ruleFor, reduced};
 use message::Message;
 
 #[repr(C)]
@@ -37,11 +37,11 @@ impl Wait {
         if self.owner == handle { 1 } else { 0 }
     }
 
-    // Whether a message ends it.
-    pub fn answered_by(self, message: Message) -> bool
-        ensures { λ r. ⌜ r ≡ answeredBy message self ⌝ }
+    // The rule by which a message ends it.
+    pub fn rule_for(self, message: Message) -> u8
+        ensures { λ r. ⌜ r ≡ ruleFor message self ⌝ }
     {
-        message.is_reply(self.sent, self.reply)
+        message.reply_rule(self.sent, self.reply)
     }
 
     // With its time left reduced, to 0 at the least.

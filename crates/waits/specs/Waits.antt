@@ -12,9 +12,10 @@ use Rattle.lists.specs.Places.{first, least, least-lt, without}
 use Rattle.lists.specs.Sums.{keep}
 use Rattle.lists.specs.Tests.{cond-same}
 use Rattle.message.specs.declared.Message.{Message}
-use Rattle.wait.specs.Wait.{noWait, ownedBy, answeredBy, leftOf}
+use Rattle.wait.specs.Wait.{noWait, ownedBy, answeredBy, ruleFor, leftOf}
 use Rattle.wait.specs.declared.Wait.{Wait}
 use Rattle.waits.specs.declared.Ended.{Ended}
+use Rattle.waits.specs.declared.Match.{Match}
 use Rattle.waits.specs.declared.Waits.{Waits}
 
 -- the waits, the oldest first; a count past 32 counts as 32
@@ -37,6 +38,10 @@ takenAt i ws = record { found = ltb i (length ws); wait = getD ws i noWait; rest
 -- "the oldest matching wait ends"
 unfoldable pub matchTaken : Message → List Wait → Taken
 matchTaken m ws = takenAt (first (answeredBy m) ws) ws
+
+-- its place, and the rule by which the message ends it (document 02, W-207); past the end there is no rule
+abbrev pub matchIn : Message → List Wait → Match
+matchIn m ws = record { place = first (answeredBy m) ws; rule = ruleFor m (getD ws (first (answeredBy m) ws) noWait) }
 
 -- one at a time of what `rules` does at once: the wait that time ends next, "least time left first, oldest first where equal", if it has no more left than that
 unfoldable pub dueAt : ℕ → List Wait → ℕ

@@ -6,11 +6,12 @@ ghost use lib.Dec.{ltb};
 ghost use lib.ListN.{length, getD};
 ghost use mathlib.Core.Bool.{cond};
 ghost use Rattle.lists.specs.Sums.{any, count};
-ghost use Rattle.lists.specs.Places.{first, least, without};
+ghost use Rattle.lists.specs.Places.{least, without};
 ghost use Rattle.lists.specs.Vector.{put};
-ghost use Rattle.wait.specs.Wait.{noWait, ownedBy, numbered, answeredBy, leftOf, reduced};
-ghost use Rattle.waits.specs.Waits.{waitsOf, takenOf, takenAt, dueAt, dueTaken, withoutHandle};
+ghost use Rattle.wait.specs.Wait.{noWait, ownedBy, numbered, leftOf, reduced};
+ghost use Rattle.waits.specs.Waits.{waitsOf, matchIn, takenOf, takenAt, dueAt, dueTaken, withoutHandle};
 use message::Message;
+use message::reply::NO_MATCH;
 use wait::Wait;
 
 #[repr(C)]
@@ -25,6 +26,13 @@ pub struct Ended {
     pub found: bool,
     pub wait: Wait,
     pub waits: Waits,
+}
+
+// The oldest wait that a message ends: its place and the rule. Where there is none, the count and no rule.
+#[repr(C)]
+pub struct Match {
+    pub place: usize,
+    pub rule: u8,
 }
 
 impl Waits {
@@ -117,19 +125,26 @@ impl Waits {
         }
     }
 
-    // The place of the oldest that a message ends; the count where there is none.
-    pub fn first_match(self, message: Message) -> usize
-        ensures { λ r. ⌜ r ≡ first (answeredBy message) (waitsOf self) ⌝ }
+    // The oldest that a message ends.
+    pub fn first_match(self, message: Message) -> Match
+        ensures { λ r. ⌜ r ≡ matchIn message (waitsOf self) ⌝ }
     {
         let n = self.count();
         let mut place = 0;
         while place < n {
-            if self.slots[place].answered_by(message) {
-                return place;
+            let rule = self.slots[place].rule_for(message);
+            if rule != NO_MATCH {
+                return Match {
+                    place: place,
+                    rule: rule,
+                };
             }
             place += 1;
         }
-        n
+        Match {
+            place: n,
+            rule: NO_MATCH,
+        }
     }
 
     // Of two places, that of the less time left, the first where equal.

@@ -2,12 +2,11 @@
 use borrow.Author.Needs.{needs}
 use Rattle.incoming.proofs.later_steps.Statement.{statement}
 use Rattle.incoming.proofs.later_steps.Tie as tie
+use Rattle.waits.proofs.Matches.{match-found}
+use Rattle.waits.specs.Waits.{waitsOf}
 
 first-match-requires : tie.Need-first-match-requires
 first-match-requires c κs = search needs
-
-count-requires : tie.Need-count-requires
-count-requires c κs = search needs
 
 at-requires : tie.Need-at-requires
 at-requires c κs = search needs
@@ -32,18 +31,18 @@ returns c =
     let chooses = c .before .before .before .before .before .before .before in
     let works = chooses .before .before in
     let finds = works .before in
-    let counts = finds .before in
+    let matches = finds .before .before in
+    let a = matches .before .before .args in
     let sends = c .before .before .before in
     rw
     (c .receivers .ensures, c .before .follower-kind .ensures, sends .sent .ensures, chooses .choose .ensures, works .work-for .ensures)
-    (rw (finds .at .ensures, counts .count .ensures .0, counts .before .first-match .ensures))
+    (rw (finds .at .ensures, matches .first-match .ensures, match-found (a .message) (waitsOf (a .parts .waits))))
 
 pub later-steps-spec : {M : Type 1} → statement M
 later-steps-spec =
     tie.close
     (tie.spec
     first-match-requires
-    count-requires
     at-requires
     work-for-requires
     choose-requires

@@ -13,7 +13,7 @@ use Rattle.inbox.proofs.Arrays.{left-out, room-within, stored}
 use Rattle.incoming.proofs.Outcome.{Change, activeParts, message-outcome, replied-state}
 use Rattle.incoming.proofs.Receivers.{nobody-copies}
 use Rattle.incoming.proofs.Turns.{doCopies, doNote, doReply, doSend}
-use Rattle.incoming.specs.Steps.{receiversOf}
+use Rattle.incoming.specs.Steps.{receiversOf, replyEntryBy}
 use Rattle.incoming.specs.Work.{toDoOf}
 use Rattle.incoming.specs.declared.ToDo.{ToDo}
 use Rattle.lists.specs.Tests.{clash}
@@ -23,7 +23,6 @@ use Rattle.parts.specs.Parts.{doneOf, stateOf}
 use Rattle.parts.specs.declared.Parts.{Parts}
 use Rattle.rules.specs.Deliver.{copies}
 use Rattle.rules.specs.Handles.{inRole, isHere}
-use Rattle.rules.specs.Incoming.{replyEntry}
 use Rattle.rules.specs.Tracker.{doMessage}
 use Rattle.incoming.proofs.message.Statement.{statement}
 use Rattle.incoming.proofs.message.Tie as tie
@@ -170,7 +169,7 @@ before-copies c q last =
     (ap stateOf (w .8) ∙ reply (stored (p1 .entries) (p1 .counts) long h _ _ (w .4 .ensures .0) (w .6 .taken)), λ z. clash (w .0 .taken) z))
     (⊎-elim
     (λ w.
-    let reply = replied-state s1 (x .replies) _ _ _ h (replyEntry (x .sequence) m) _ (w .0 .taken) (w .2 .ensures) refl in
+    let reply = replied-state s1 (x .replies) _ _ _ h (replyEntryBy (x .rule) (x .sequence) m) _ (w .0 .taken) (w .2 .ensures) refl in
     (ap stateOf (w .7) ∙ reply (left-out (p1 .entries) (p1 .counts) long h _ _ (w .4 .ensures .0) (w .6 .left)), λ z. clash (w .0 .taken) z))
     (λ w. (ap stateOf (w .1) ∙ rw (w .0 .left), λ _. w .1)))
     (j2 .if2 .came) in
