@@ -1,10 +1,11 @@
-// The known answers of document 01, and those of W-202 to W-204, asked of the code: one line for each case with what it gave.
+// The known answers of document 01, and those of W-202 to W-207, asked of the code: one line for each case with what it gave.
 use adapter::Adapter;
 use constants::CEC_MODE_EXCL_INITIATOR;
 use constants::CEC_OP_CEC_VERSION_1_4;
 use constants::CEC_OP_CEC_VERSION_2_0;
 use constants::CEC_TX_STATUS_OK;
 use entry::Counts;
+use message::Message;
 use queue::Queue;
 use request::Request;
 use settings::Settings;
@@ -89,31 +90,39 @@ fn poll() -> Given {
     }
 }
 
-// 40 8F is on the wire.
-fn sending(reply: u8) -> Adapter {
+// 40 and an opcode are on the wire.
+fn sending(opcode: u8, reply: u8) -> Adapter {
     bench(true)
-        .transmit(0, request(2, 0x40, 0x8F, reply))
+        .transmit(0, request(2, 0x40, opcode, reply))
         .adapter
         .bus_start()
         .adapter
 }
 
-// 40 8F was sent, wants 90, and its result was received.
-fn waiting() -> Adapter {
-    sending(0x90)
+// They were sent, a reply is wanted, and the result was received.
+fn waiting(opcode: u8, reply: u8) -> Adapter {
+    sending(opcode, reply)
         .bus_result(CEC_TX_STATUS_OK, Counts::none())
         .adapter
         .receive(0)
         .adapter
 }
 
-// Then some bytes came, and a receive.
-fn asked(length: u8, first: u8, second: u8, third: u8) -> Given {
+fn three(first: u8, second: u8, third: u8) -> [u8; 16] {
     let mut bytes = [0; 16];
     bytes[0] = first;
     bytes[1] = second;
     bytes[2] = third;
-    let answer = waiting().received(length, bytes).adapter.receive(0);
+    bytes
+}
+
+// 40 8F wants 90; then some bytes came, and a receive.
+fn asked(length: u8, first: u8, second: u8, third: u8) -> Given {
+    let bytes = three(first, second, third);
+    let answer = waiting(0x8F, 0x90)
+        .received(length, bytes)
+        .adapter
+        .receive(0);
     Given {
         errno: answer.errno,
         status: answer.entry.rx_status as u32,
@@ -122,7 +131,7 @@ fn asked(length: u8, first: u8, second: u8, third: u8) -> Given {
 
 // The errno of a result of this status.
 fn result(status: u8) -> u32 {
-    sending(0).bus_result(status, Counts::none()).errno
+    sending(0x8F, 0).bus_result(status, Counts::none()).errno
 }
 
 // The errno of a message of this length: a transmit, and one from the wire.
@@ -252,6 +261,28 @@ fn say_byte(byte: u8) {
     io::print_hex(1, byte as u64, 2);
 }
 
+// What ended the wait, with the opcode that the entry shows (W-207).
+fn say_reply(text: &[u8], adapter: Adapter) {
+    let entry = adapter.receive(0).entry;
+    say(text, entry.rx_status as u32);
+    io::write_all(1, b", reply");
+    say_byte(entry.reply);
+    io::write_all(1, b"\n");
+}
+
+// 40 C0 wants C1, and some bytes came.
+fn arc_asked(length: u8, second: u8, third: u8) -> Adapter {
+    waiting(0xC0, 0xC1)
+        .received(length, three(0x04, second, third))
+        .adapter
+}
+
+// The rule by which they are the reply.
+fn arc_rule(length: u8, second: u8, third: u8) -> u32 {
+    let sent = Message::new(2, three(0x40, 0xC0, 0));
+    Message::new(length, three(0x04, second, third)).reply_rule(sent, 0xC1) as u32
+}
+
 fn say_six(bytes: [u8; 16]) {
     say_byte(bytes[0]);
     say_byte(bytes[1]);
@@ -285,6 +316,27 @@ fn say_replies() {
     line(
         b"same, came 54 90 00: receive, errno ",
         asked(3, 0x54, 0x90, 0x00).errno,
+    );
+}
+
+fn say_rules() {
+    line(
+        b"sent 40 C0 wants C1, came 04 C1: rule ",
+        arc_rule(2, 0xC1, 0),
+    );
+    line(b"same, came 04 C2: rule ", arc_rule(2, 0xC2, 0));
+    line(b"same, came 04 00 C0: rule ", arc_rule(3, 0x00, 0xC0));
+    line(b"same, came 04 00: rule ", arc_rule(2, 0x00, 0xC0));
+    say_reply(b"came 04 C1: rx_status ", arc_asked(2, 0xC1, 0));
+    say_reply(b"came 04 C2: rx_status ", arc_asked(2, 0xC2, 0));
+    say_reply(b"came 04 00 C0: rx_status ", arc_asked(3, 0x00, 0xC0));
+    say_reply(
+        b"after 1000 ms: rx_status ",
+        waiting(0xC0, 0xC1).time_passed(1000).adapter,
+    );
+    say_reply(
+        b"unconfigured: rx_status ",
+        waiting(0xC0, 0xC1).unconfigure().adapter,
     );
 }
 
@@ -377,4 +429,5 @@ fn main() {
     say_features();
     say_masks();
     say_picture();
+    say_rules();
 }
