@@ -1,7 +1,8 @@
 /*
  * The structs and functions of clothbadger.h are those of the proved code: sizes, alignments, the offset and type of each field, and prototypes.
  * Answers, entries and rows have no padding, and the places that cec_new() copies are those of the fields that are meant.
- * c/run makes structs.inc and prototypes.inc, the structs and exported functions of the Rattle sources in C, and offsets.inc, the layout that is proved.
+ * c/run makes structs.inc and prototypes.inc, the structs and exported functions of the Rattle sources in C, rules.inc, the rules of a reply,
+ * and offsets.inc, the layout that is proved.
  */
 #include "clothbadger.h"
 
@@ -40,7 +41,7 @@
 #include "prototypes.inc"
 
 /* The rules of a reply have the numbers of the proved code. */
-#define RULE(name, number) _Static_assert(CLOTHBADGER_REPLY_##name == number, "rule " #name)
+#define RULE(name, number) _Static_assert(CLOTHBADGER_##name == number, #name)
 
 #include "rules.inc"
 

@@ -1,6 +1,6 @@
 /*
  * The kernel's numbers, in three places: clothbadger.h, the proved code and the kernel's own headers. All are the same.
- * c/run makes the two lists: header.inc has NUMBER(name) for each number of clothbadger.h,
+ * c/run makes the two lists: header.inc has NUMBER(name) for each of the kernel's numbers in clothbadger.h,
  * constants.inc NUMBER(name, value) for each of crates/constants.
  */
 #include "clothbadger.h"

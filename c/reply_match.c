@@ -6,7 +6,12 @@
 
 #include <stdio.h>
 
-enum { NONE = CLOTHBADGER_REPLY_NO_MATCH, ABORT, WANTED, PAIR };
+enum {
+    NONE = CLOTHBADGER_RULE_NONE,
+    ABORT = CLOTHBADGER_RULE_FEATURE_ABORT,
+    WANTED = CLOTHBADGER_RULE_WANTED_OPCODE,
+    PAIR = CLOTHBADGER_RULE_ARC_PAIR
+};
 
 static int wrong;
 
@@ -38,18 +43,18 @@ static void known_answers(void)
     came("04 00 00", NONE, 0x8F, 0x00, (const uint8_t[4]){0x04, 0x00, 0x00}, 3);
 }
 
-/* A match needs 2 to 16 bytes on both sides. */
-static void lengths(void)
+/* A match needs 2 to 16 bytes on both sides, and one by Feature Abort 3 of those that came. */
+static void lengths(uint8_t rule, uint8_t opcode, uint8_t third, size_t least)
 {
     static const size_t tried[] = {0, 1, 2, 16, 17};
-    const uint8_t sent[17] = {0x40, 0x8F};
-    const uint8_t received[17] = {0x04, 0x90};
+    const uint8_t sent[17] = {0x40, CEC_MSG_INITIATE_ARC};
+    const uint8_t received[17] = {0x04, opcode, third};
     char name[64];
     for (size_t i = 0; i < 5; i++)
         for (size_t j = 0; j < 5; j++) {
-            bool match = 2 <= tried[i] && tried[i] <= 16 && 2 <= tried[j] && tried[j] <= 16;
-            snprintf(name, sizeof name, "sent %zu bytes, received %zu", tried[i], tried[j]);
-            expect(name, match ? WANTED : NONE, sent, tried[i], received, tried[j], 0x90);
+            bool match = 2 <= tried[i] && tried[i] <= 16 && least <= tried[j] && tried[j] <= 16;
+            snprintf(name, sizeof name, "sent %zu bytes, came %02X of %zu", tried[i], opcode, tried[j]);
+            expect(name, match ? rule : NONE, sent, tried[i], received, tried[j], CEC_MSG_REPORT_ARC_INITIATED);
         }
 }
 
@@ -100,14 +105,14 @@ static void opcodes(void)
 }
 
 /* Every pair of first bytes. */
-static void addresses(void)
+static void addresses(uint8_t rule, uint8_t opcode, uint8_t third)
 {
     for (unsigned i = 0; i < 65536; i++) {
-        uint8_t sent[] = {(uint8_t)(i >> 8), 0x8F};
-        uint8_t received[] = {(uint8_t)i, 0x90};
+        uint8_t sent[] = {(uint8_t)(i >> 8), CEC_MSG_INITIATE_ARC};
+        uint8_t received[] = {(uint8_t)i, opcode, third};
         bool from = sent[0] % 16 == 15 || sent[0] % 16 == received[0] / 16;
         bool to = received[0] % 16 == 15 || received[0] % 16 == sent[0] / 16;
-        compare(from && to ? WANTED : NONE, sent, received, 2, 0x90);
+        compare(from && to ? rule : NONE, sent, received, 3, CEC_MSG_REPORT_ARC_INITIATED);
     }
     say_counts("addresses");
 }
@@ -115,9 +120,13 @@ static void addresses(void)
 int main(void)
 {
     known_answers();
-    lengths();
+    lengths(ABORT, CEC_MSG_FEATURE_ABORT, CEC_MSG_INITIATE_ARC, 3);
+    lengths(WANTED, CEC_MSG_REPORT_ARC_INITIATED, 0, 2);
+    lengths(PAIR, CEC_MSG_REPORT_ARC_TERMINATED, 0, 2);
     opcodes();
-    addresses();
+    addresses(ABORT, CEC_MSG_FEATURE_ABORT, CEC_MSG_INITIATE_ARC);
+    addresses(WANTED, CEC_MSG_REPORT_ARC_INITIATED, 0);
+    addresses(PAIR, CEC_MSG_REPORT_ARC_TERMINATED, 0);
     puts(wrong ? "wrong" : "as they should be");
     return wrong;
 }

@@ -70,10 +70,13 @@ static void next_entry(const char *name)
     printf("%s: tx_status %u, rx_status %u, reply %02X\n", name, entry.tx_status, entry.rx_status, entry.reply);
 }
 
+static uint32_t flags;
+
 /* CEC_MSG_INITIATE_ARC is sent, and CEC_MSG_REPORT_ARC_INITIATED wanted. */
 static void initiate_arc(void)
 {
-    struct cec_request request = {.length = 2, .bytes = {0x40, CEC_MSG_INITIATE_ARC}, .reply = CEC_MSG_REPORT_ARC_INITIATED};
+    struct cec_request request = {
+        .length = 2, .bytes = {0x40, CEC_MSG_INITIATE_ARC}, .reply = CEC_MSG_REPORT_ARC_INITIATED, .flags = flags};
     cec_transmit(&adapter, 0, request);
     cec_bus_start(&adapter);
     cec_bus_result(&adapter, CEC_TX_STATUS_OK, (struct cec_counts){0});
@@ -98,8 +101,9 @@ static void replies(void)
     cec_time_passed(&adapter, 1000);
     next_entry("timeout");
     cec_set_mode(&adapter, 0, CEC_MODE_INITIATOR | CEC_MODE_FOLLOWER);
-    cec_received(&adapter, (struct cec_message){.length = 2, .bytes = {0x04, CEC_MSG_REPORT_POWER_STATUS}});
-    next_entry("copy");
+    flags = CEC_MSG_FL_REPLY_TO_FOLLOWERS;
+    answered("reply to a follower", (struct cec_message){.length = 2, .bytes = {0x04, CEC_MSG_REPORT_ARC_INITIATED}});
+    next_entry("its copy");
     initiate_arc();
     cec_unconfigure(&adapter);
     next_entry("unconfigure");

@@ -156,7 +156,7 @@ struct cec_counts {
 /*
  * What an inbox holds. Under a sequence number: the result of that transmit (tx_status not 0), or the end of its wait
  * (rx_status not 0: reply, Feature Abort, timeout or abort). With sequence 0: a copy for a monitor or a follower.
- * At the end of a wait, reply is the opcode that came, CEC_MSG_FEATURE_ABORT for a Feature Abort, or, with a timeout or an
+ * At the end of a wait, reply is the opcode that came, CEC_MSG_FEATURE_ABORT (0) for a Feature Abort, or, with a timeout or an
  * abort, the opcode that was wanted. In results and copies it is 0.
  */
 struct cec_entry {
@@ -312,13 +312,14 @@ uint16_t cec_adapter_active_address(struct cec_adapter adapter);
 struct cec_route_answer cec_route(uint16_t first, uint16_t second);
 
 /*
- * By which rule the received bytes are the reply to the sent bytes, with the opcode wanted as the reply; the first of the three that
- * holds, or none. Each message is a pointer and a length; any length is taken, and one under 2 or over 16 is no match.
+ * By which rule the received bytes are the reply to the sent bytes, with the opcode wanted as the reply: the first of the three that
+ * holds, or none. Each message is a pointer and a length; any length is taken, and one under 2 or over 16 is no match. A match comes
+ * from the address that the sent bytes went to, which is any if that is 15, and goes to their initiator or to 15.
  */
-#define CLOTHBADGER_REPLY_NO_MATCH      0
-#define CLOTHBADGER_REPLY_FEATURE_ABORT 1 /* CEC_MSG_FEATURE_ABORT of the sent opcode */
-#define CLOTHBADGER_REPLY_WANTED_OPCODE 2 /* the opcode wanted, not 0 */
-#define CLOTHBADGER_REPLY_ARC_PAIR      3 /* the other ARC report, where CEC_MSG_INITIATE_ARC wants one of the two */
+#define CLOTHBADGER_RULE_NONE          0
+#define CLOTHBADGER_RULE_FEATURE_ABORT 1 /* CEC_MSG_FEATURE_ABORT, its third byte the sent opcode */
+#define CLOTHBADGER_RULE_WANTED_OPCODE 2 /* the opcode wanted, which is not 0 */
+#define CLOTHBADGER_RULE_ARC_PAIR      3 /* the other ARC report, where CEC_MSG_INITIATE_ARC wants one of the two */
 
 uint8_t cec_reply_match(const uint8_t *sent, size_t sent_length,
                         const uint8_t *received, size_t received_length,

@@ -20,7 +20,7 @@ resultCopy status counts sent = result 0 status counts sent
 
 -- an entry that shows a receive status, a message and the opcode of a reply alone
 abbrev pub rxEntry : ℕ → ℕ → Message → ℕ → Entry
-rxEntry sequence status m opcode = record { sequence = sequence; «tx_status» = 0; «rx_status» = status; message = m; counts = noCounts; reply = opcode }
+rxEntry sequence status m shown = record { sequence = sequence; «tx_status» = 0; «rx_status» = status; message = m; counts = noCounts; reply = shown }
 
 -- "Each reply entry also shows the opcode that really came" (W-207)
 abbrev pub matched : ℕ → ℕ → Message → Entry
@@ -37,11 +37,11 @@ featureAbortReply sequence came = matched sequence (CEC-RX-STATUS-OK + CEC-RX-ST
 abbrev pub timedOut : ℕ → Message → ℕ → Entry
 timedOut sequence sent wanted = rxEntry sequence CEC-RX-STATUS-TIMEOUT sent wanted
 
--- "with their number, rx_status 0x08, and the sent length and bytes"
+-- "with their number, rx_status 0x08, and the sent length and bytes"; the wanted opcode as there
 abbrev pub aborted : ℕ → Message → ℕ → Entry
 aborted sequence sent wanted = rxEntry sequence CEC-RX-STATUS-ABORTED sent wanted
 
--- the copy of a message, for a monitor or a follower: "rx_status 0x01, sequence 0"
+-- the copy of a message, for a monitor or a follower: "rx_status 0x01, sequence 0"; copies show 0 (W-207)
 abbrev pub messageCopy : Message → Entry
 messageCopy m = rxEntry 0 CEC-RX-STATUS-OK m 0
 

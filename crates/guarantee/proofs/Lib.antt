@@ -28,3 +28,4 @@ pub mod Since
 pub mod Claim
 pub mod Room
 pub mod Modes
+pub mod Opcodes

@@ -2,3 +2,4 @@ pub mod Seen
 pub mod Claim
 pub mod Room
 pub mod Modes
+pub mod Opcodes

@@ -1,7 +1,7 @@
 -- What a message from the wire comes to, from what each statement does to the parts.
 -- Assumes nothing.
 use Prim.Native.Nat.{ℕ}
-use mathlib.Core.Bool.{Bool, true, false, cond, _&&_}
+use mathlib.Core.Bool.{Bool, true, false, cond, not, _&&_}
 use mathlib.Core.List.{List}
 use mathlib.Core.Logic.{_≢_}
 use mathlib.Core.Path.{_≡_, ap, _∙_}
@@ -19,6 +19,7 @@ use Rattle.incoming.specs.Work.{toDoOf}
 use Rattle.incoming.specs.declared.ToDo.{ToDo}
 use Rattle.lists.specs.Tests.{split}
 use Rattle.message.specs.Message.{destination, message}
+use Rattle.message.specs.Rule.{RULE-NONE}
 use Rattle.message.specs.declared.Message.{Message}
 use Rattle.parts.proofs.Outcomes.{refused-outcome, taken-outcome}
 use Rattle.parts.specs.Parts.{doneOf, orRefused, stateOf}
@@ -60,7 +61,7 @@ pub message-outcome : (errno length : ℕ) (bytes : List ℕ) (m : Message) (act
     → kind ≡ receiversOf (eqb errno 0) (stateOf p0 .handles) (monitorKind here)
     → x ≡ toDoOf (stateOf p1) (eqb errno 0 && goesOn (stateOf p1) m) m
     → Change p0 (copies (inRole (getsCopies kind)) (messageCopy m) (stateOf p0)) (kind ≡ NOBODY) p1
-    → Change p1 (doReply x m (stateOf p1)) (x .replies ≡ false) p2
+    → Change p1 (doReply x m (stateOf p1)) (x .rule ≡ RULE-NONE) p2
     → Change p2 (doNote x m (stateOf p2)) (x .notes ≡ false) p3
     → Change p3 (doSend x (stateOf p3)) (x .sends ≡ false) p4
     → Change p4 (doCopies x m (stateOf p4)) (x .followers ≡ NOBODY) p5
@@ -76,7 +77,7 @@ message-outcome errno length bytes m active here kind x p0 p1 p2 p3 p4 p5 refusa
     ap (activeParts p5) (tracks ∙ rw f) ∙ ap (λ (p : Parts). activeParts p (p0 .active)) (c5 .1 (ap (λ (y : ToDo). y .followers) nothing)
     ∙ c4 .1 (ap (λ (y : ToDo). y .sends) nothing)
     ∙ c3 .1 (ap (λ (y : ToDo). y .notes) nothing)
-    ∙ c2 .1 (ap (λ (y : ToDo). y .replies) nothing)
+    ∙ c2 .1 (ap (λ (y : ToDo). y .rule) nothing)
     ∙ c1 .1 (monitored ∙ ap (λ (b : Bool). receiversOf b (s .handles) (monitorKind here)) f)) in
     let all : stateOf p5 ≡ doAll x m u = c5 .0 ∙ ap (doCopies x m) (c4 .0 ∙ ap (doSend x) (c3 .0 ∙ ap (doNote x m) (c2 .0))) in
     let copied : eqb errno 0 ≡ true → u ≡ copies (inRole (monitors s m)) e s =
@@ -100,10 +101,10 @@ message-outcome errno length bytes m active here kind x p0 p1 p2 p3 p4 p5 refusa
     )
 
 -- a reply, once its entry is stored
-pub replied-state : (s : State) (b : Bool) (ws vs : List Wait) (is : List (List Entry)) (h : ℕ) (e d : Entry)
-    → b ≡ true
+pub replied-state : (s : State) (rule : ℕ) (ws vs : List Wait) (is : List (List Entry)) (h : ℕ) (e d : Entry)
+    → rule ≢ RULE-NONE
     → vs ≡ ws
     → e ≡ d
     → is ≡ delivered (s .inboxes) h e
-    → withInboxes (withWaits s vs) is ≡ cond b (deliver (withWaits s ws) h d) s
-replied-state s b ws vs is h e d t v q r = rw (t, r, v, q)
+    → withInboxes (withWaits s vs) is ≡ cond (not (eqb rule RULE-NONE)) (deliver (withWaits s ws) h d) s
+replied-state s rule ws vs is h e d some v q r = rw (ne-eqb rule RULE-NONE some, r, v, q)

@@ -17,7 +17,7 @@ use Rattle.handle.specs.declared.Handle.{Handle}
 use Rattle.incoming.proofs.Alike.{Alike, alike-trans, replied-alike, notes-alike, answers-alike, followed-alike, copies-alike}
 use Rattle.incoming.proofs.Copied.{copies-waits, followers-same}
 use Rattle.incoming.proofs.Receivers.{no-followers, nobody-copies, receivers-copies}
-use Rattle.incoming.specs.Steps.{followerKind, goesOn, notedAt, receiversOf, replyEntryBy}
+use Rattle.incoming.specs.Steps.{entryByRule, followerKind, goesOn, notedAt, receiversOf}
 use Rattle.incoming.specs.Work.{chosenFor, toDoOf}
 use Rattle.incoming.specs.declared.ToDo.{ToDo}
 use Rattle.lists.specs.Places.{first, first-passes, without}
@@ -25,8 +25,9 @@ use Rattle.lists.specs.Sums.{any}
 use Rattle.lists.specs.Tests.{clash, cond-same, split}
 use Rattle.lists.specs.Vector.{put}
 use Rattle.message.specs.Message.{destination, opcode, isFeatureAbort}
+use Rattle.message.specs.Rule.{RULE-NONE}
 use Rattle.message.specs.declared.Message.{Message}
-use Rattle.rules.proofs.Shown.{rule-abort}
+use Rattle.rules.proofs.Opcodes.{rule-abort}
 use Rattle.rules.specs.Core.{answers, isDirected, isNoted, isRegistered, notes, sends}
 use Rattle.rules.specs.Deliver.{copies, deliver}
 use Rattle.rules.specs.Features.{answerFor, isAnswered}
@@ -37,6 +38,7 @@ use Rattle.rules.specs.State.{State, withNoted, withQueue, withWaits}
 use Rattle.steps.specs.declared.Chosen.{Chosen}
 use Rattle.transmission.specs.Transmission.{ownerless}
 use Rattle.wait.specs.Wait.{answeredBy, noWait}
+use Rattle.waits.proofs.Matches.{match-found}
 use Rattle.waits.specs.Waits.{Taken, matchTaken, takenAt}
 
 -- what `rules: sends` does, with a message
@@ -79,7 +81,7 @@ alone false false false noted d r o e = (refl, refl)
 
 -- what is to be done, done
 abbrev pub doReply : ToDo → Message → State → State
-doReply x m s = cond (x .replies) (deliver (withWaits s (without (x .wait) (s .waits))) (x .owner) (replyEntryBy (x .rule) (x .sequence) m)) s
+doReply x m s = cond (not (eqb (x .rule) RULE-NONE)) (deliver (withWaits s (without (x .wait) (s .waits))) (x .owner) (entryByRule (x .rule) (x .sequence) m)) s
 
 abbrev pub doNote : ToDo → Message → State → State
 doNote x m s = cond (x .notes) (withNoted s (notedAt (s .noted) m)) s
@@ -167,11 +169,12 @@ module _ (s : State) (t : Taken) (m : Message) where
 reply-step : (s : State) (m : Message) → doReply (toDoOf s true m) m s ≡ replied s (takenAt (first (answeredBy m) (s .waits)) (s .waits)) m
 reply-step s m =
     let t = takenAt (first (answeredBy m) (s .waits)) (s .waits) in
+    let found = match-found m (s .waits) in
     split (t .found)
     (λ q.
     let met = first-passes (answeredBy m) (s .waits) noWait (ltb-true (first (answeredBy m) (s .waits)) (length (s .waits)) q) in
-    rw (q, rule-abort m (t .wait) met))
-    (λ q. rw q)
+    rw (found, q, rule-abort m (t .wait) met))
+    (λ q. rw (found, q))
 
 pub done-all : (s : State) (further : Bool) (m : Message) → doAll (toDoOf s further m) m s ≡ cond further (handled s (isAnswered s m) (answerFor (s .settings) m) (matchTaken m (s .waits)) m) s
 unfolding matchTaken notes

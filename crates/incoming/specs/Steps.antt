@@ -11,7 +11,7 @@ use Rattle.entry.specs.declared.Entry.{Entry}
 use Rattle.handle.specs.declared.Handle.{Handle}
 use Rattle.lists.specs.Sums.{any}
 use Rattle.message.specs.Message.{destination, initiator, addressAt}
-use Rattle.message.specs.Rule.{FEATURE-ABORT}
+use Rattle.message.specs.Rule.{RULE-FEATURE-ABORT}
 use Rattle.message.specs.declared.Message.{Message}
 use Rattle.rules.specs.Handles.{inRole, isConfigured, isHere}
 use Rattle.rules.specs.State.{State}
@@ -29,8 +29,8 @@ abbrev pub receiversOf : Bool → List Handle → ℕ → ℕ
 receiversOf copied hs kind = cond (copied && any (inRole (getsCopies kind)) hs) kind NOBODY
 
 -- `rules: replyEntry`, by the rule of the match
-abbrev pub replyEntryBy : ℕ → ℕ → Message → Entry
-replyEntryBy rule number m = cond (eqb rule FEATURE-ABORT) (featureAbortReply number m) (reply number m)
+abbrev pub entryByRule : ℕ → ℕ → Message → Entry
+entryByRule rule number m = cond (eqb rule RULE-FEATURE-ABORT) (featureAbortReply number m) (reply number m)
 
 -- not `rules: stops`
 abbrev pub goesOn : State → Message → Bool

@@ -6,6 +6,7 @@ use Rattle.core.specs.Work.{abortOf, messageOf, workOf}
 use Rattle.incoming.specs.Steps.{followerKind, receiversOf}
 use Rattle.incoming.specs.declared.ToDo.{ToDo}
 use Rattle.lists.specs.Places.{first}
+use Rattle.message.specs.Rule.{RULE-NONE}
 use Rattle.message.specs.declared.Message.{Message}
 use Rattle.rules.specs.State.{State}
 use Rattle.steps.specs.Steps.{chosenOf}
@@ -20,8 +21,7 @@ chosenFor s t m = chosenOf (s .handles) (workOf (s .settings) m) (t .found) (t .
 -- the steps, for the wait that the message ends; nothing is done where it goes no further
 abbrev pub toDoAt : State → Bool → Message → Taken → Chosen → ToDo
 toDoAt s further m t x = record {
-  replies = further && t .found;
-  rule = ruleFor m (t .wait);
+  rule = cond further (ruleFor m (t .wait)) RULE-NONE;
   wait = first (answeredBy m) (s .waits);
   owner = t .wait .owner;
   sequence = t .wait .sequence;

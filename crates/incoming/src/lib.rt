@@ -21,15 +21,14 @@ use copies::NOBODY;
 use entry::Entry;
 use inbox::count_at;
 use message::Message;
-use message::reply::NO_MATCH;
+use message::reply::RULE_NONE;
 use parts::Done;
 use parts::Parts;
 use parts::check;
 use transmission::Transmission;
 
-// What is to be done in steps 3 to 6: whether the wait at a place ends with a reply, and by which rule, whether an address is noted, whether the core sends a message, and who gets copies.
+// What is to be done in steps 3 to 6: by which rule the wait at a place ends with a reply, if any does, whether an address is noted, whether the core sends a message, and who gets copies.
 struct ToDo {
-    replies: bool,
     rule: u8,
     wait: usize,
     owner: u8,
@@ -82,16 +81,15 @@ fn later_steps(parts: Parts, further: bool, message: Message) -> ToDo
     ensures { λ r. ⌜ r ≡ toDoOf (stateOf parts) further message ⌝ }
 {
     let waits = parts.waits;
-    let matched = waits.first_match(message);
-    let found = matched.rule != NO_MATCH;
-    let wait = waits.at(matched.place);
+    let oldest = waits.first_match(message);
+    let found = oldest.rule != RULE_NONE;
+    let wait = waits.at(oldest.place);
     let work = core::work_for(parts.settings, message);
     let handles = parts.handles;
     let chosen = steps::choose(handles, work, found, wait.to_followers, message);
     ToDo {
-        replies: further & found,
-        rule: matched.rule,
-        wait: matched.place,
+        rule: step::rule(further, oldest.rule),
+        wait: oldest.place,
         owner: wait.owner,
         sequence: wait.sequence,
         notes: further & chosen.notes,
@@ -130,7 +128,7 @@ pub fn message(mut parts: Parts, length: u8, bytes: [u8; 16]) -> Done
         parts = copies::copies(parts, monitors, Entry::message_copy(message));
     }
     let to_do = later_steps(parts, (errno == 0) & goes_on(parts, message), message);
-    if to_do.replies {
+    if to_do.rule != RULE_NONE {
         parts.waits = parts.waits.without(to_do.wait);
         let n = count_at(parts.counts, to_do.owner);
         let h = to_do.owner as usize;

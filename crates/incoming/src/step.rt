@@ -4,19 +4,28 @@ ghost use mathlib.Core.Path.{_≡_};
 ghost use Rattle.constants.specs.Kernel.{CEC-OP-ABORT-UNRECOGNIZED-OP};
 ghost use Rattle.core.specs.Work.{messageOf, abortOf};
 ghost use Rattle.handles.specs.Roles.{handlesOf};
-ghost use Rattle.incoming.specs.Steps.{notedAt, receiversOf, replyEntryBy};
+ghost use Rattle.incoming.specs.Steps.{entryByRule, notedAt, receiversOf};
+ghost use Rattle.message.specs.Rule.{RULE-NONE};
 use constants::CEC_OP_ABORT_UNRECOGNIZED_OP;
 use copies::NOBODY;
 use entry::Entry;
 use handles::Handles;
 use message::Message;
-use message::reply::FEATURE_ABORT;
+use message::reply::RULE_FEATURE_ABORT;
+use message::reply::RULE_NONE;
+
+// The rule of a match, if the message goes further.
+pub fn rule(further: bool, rule: u8) -> u8
+    ensures { λ r. ⌜ r ≡ cond further rule RULE-NONE ⌝ }
+{
+    if further { rule } else { RULE_NONE }
+}
 
 // A Feature Abort is a reply too, with a bit of its own in the status.
 pub fn reply_entry(rule: u8, sequence: u32, message: Message) -> Entry
-    ensures { λ r. ⌜ r ≡ replyEntryBy rule sequence message ⌝ }
+    ensures { λ r. ⌜ r ≡ entryByRule rule sequence message ⌝ }
 {
-    if rule == FEATURE_ABORT {
+    if rule == RULE_FEATURE_ABORT {
         Entry::feature_abort_reply(sequence, message)
     } else {
         Entry::reply(sequence, message)

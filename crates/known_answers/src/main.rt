@@ -1,4 +1,4 @@
-// The known answers of document 01, and those of W-202 to W-207, asked of the code: one line for each case with what it gave.
+// The known answers of document 01, and those of the later requests up to W-207 that have some, asked of the code: one line for each case with what it gave.
 use adapter::Adapter;
 use constants::CEC_MODE_EXCL_INITIATOR;
 use constants::CEC_OP_CEC_VERSION_1_4;
@@ -327,15 +327,15 @@ fn say_rules() {
     line(b"same, came 04 C2: rule ", arc_rule(2, 0xC2, 0));
     line(b"same, came 04 00 C0: rule ", arc_rule(3, 0x00, 0xC0));
     line(b"same, came 04 00: rule ", arc_rule(2, 0x00, 0xC0));
-    say_reply(b"came 04 C1: rx_status ", arc_asked(2, 0xC1, 0));
-    say_reply(b"came 04 C2: rx_status ", arc_asked(2, 0xC2, 0));
-    say_reply(b"came 04 00 C0: rx_status ", arc_asked(3, 0x00, 0xC0));
+    say_reply(b"same, came 04 C1: rx_status ", arc_asked(2, 0xC1, 0));
+    say_reply(b"same, came 04 C2: rx_status ", arc_asked(2, 0xC2, 0));
+    say_reply(b"same, came 04 00 C0: rx_status ", arc_asked(3, 0x00, 0xC0));
     say_reply(
-        b"after 1000 ms: rx_status ",
+        b"same, after 1000 ms: rx_status ",
         waiting(0xC0, 0xC1).time_passed(1000).adapter,
     );
     say_reply(
-        b"unconfigured: rx_status ",
+        b"same, unconfigured: rx_status ",
         waiting(0xC0, 0xC1).unconfigure().adapter,
     );
 }

@@ -1,28 +1,28 @@
 -- What the reply test looks at of a message, and that it is all.
 -- Assumes nothing.
 use Prim.Native.Nat.{ℕ}
-use mathlib.Core.Bool.{Bool, cond, _&&_}
+use mathlib.Core.Bool.{cond}
 use mathlib.Core.List.{List}
 use mathlib.Core.Path.{_≡_, refl}
 use lib.ListN.{getD, length}
-use Rattle.message.specs.Reply.{hasOpcode, fromDestination, toInitiator}
-use Rattle.message.specs.Rule.{NO-MATCH, answerRule, replyRule}
+use Rattle.message.specs.Reply.{abortsSent, isWanted, isArcPair}
+use Rattle.message.specs.Rule.{RULE-NONE, firstRule, mayMatch, replyRule}
 use Rattle.message.specs.declared.reply.Prefix.{Prefix}
 
 -- the length, and the first three bytes, 0 where there is none
 abbrev pub prefixOf : List ℕ → Prefix
 prefixOf bs = record { length = length bs; first = getD bs 0 0; second = getD bs 1 0; third = getD bs 2 0 }
 
--- the reply test on these
-abbrev pub areBetween : Prefix → Prefix → Bool
-areBetween sent came =
-    hasOpcode (sent .length)
-    && hasOpcode (came .length)
-    && fromDestination (sent .first) (came .first)
-    && toInitiator (sent .first) (came .first)
+-- the first rule that holds of the opcode that was sent, the one that came with its length and third byte, and the one wanted
+abbrev pub answerRule : ℕ → ℕ → ℕ → ℕ → ℕ → ℕ
+answerRule sent came size third wanted = firstRule (abortsSent sent came size third) (isWanted came wanted) (isArcPair sent came wanted)
 
+-- the reply test
 abbrev pub prefixRule : Prefix → Prefix → ℕ → ℕ
-prefixRule sent came wanted = cond (areBetween sent came) (answerRule (sent .second) (came .second) (came .length) (came .third) wanted) NO-MATCH
+prefixRule sent came wanted =
+    cond (mayMatch (sent .length) (came .length) (sent .first) (came .first))
+    (answerRule (sent .second) (came .second) (came .length) (came .third) wanted)
+    RULE-NONE
 
 pub prefix-rule : (sent came : List ℕ) (wanted : ℕ) → prefixRule (prefixOf sent) (prefixOf came) wanted ≡ replyRule sent came wanted
 unfolding replyRule

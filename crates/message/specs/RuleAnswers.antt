@@ -14,47 +14,54 @@ pub record RuleCase : Type 0 where
   pub gives : ℕ
 
 -- "sent 40 8F wants 90"
-abbrev pub asked : List ℕ → ℕ → RuleCase
-asked came rule = record { sent = 0x40 ∷ 0x8F ∷ []; came = came; wanted = 0x90; gives = rule }
+abbrev pub statusAsked : List ℕ → ℕ → RuleCase
+statusAsked came rule = record { sent = 0x40 ∷ 0x8F ∷ []; came = came; wanted = 0x90; gives = rule }
 
 -- sent 40 C0, with an opcode wanted
-abbrev pub initiated : ℕ → List ℕ → ℕ → RuleCase
-initiated wanted came rule = record { sent = 0x40 ∷ 0xC0 ∷ []; came = came; wanted = wanted; gives = rule }
+abbrev pub arcAsked : ℕ → List ℕ → ℕ → RuleCase
+arcAsked wanted came rule = record { sent = 0x40 ∷ 0xC0 ∷ []; came = came; wanted = wanted; gives = rule }
 
 abbrev pub ruleAnswers : List RuleCase
 ruleAnswers =
     -- the known answers
-    asked (0x04 ∷ 0x90 ∷ 0x00 ∷ []) 2
-    ∷ asked (0x04 ∷ 0x00 ∷ 0x8F ∷ 0x00 ∷ []) 1
-    ∷ asked (0x04 ∷ 0x00 ∷ []) 0
-    ∷ asked (0x54 ∷ 0x90 ∷ 0x00 ∷ []) 0
+    statusAsked (0x04 ∷ 0x90 ∷ 0x00 ∷ []) 2
+    ∷ statusAsked (0x04 ∷ 0x00 ∷ 0x8F ∷ 0x00 ∷ []) 1
+    ∷ statusAsked (0x04 ∷ 0x00 ∷ []) 0
+    ∷ statusAsked (0x54 ∷ 0x90 ∷ 0x00 ∷ []) 0
     -- the reason may be missing; a Feature Abort of another opcode; another opcode
-    ∷ asked (0x04 ∷ 0x00 ∷ 0x8F ∷ []) 1
-    ∷ asked (0x04 ∷ 0x00 ∷ 0x9F ∷ 0x00 ∷ []) 0
-    ∷ asked (0x04 ∷ 0x8F ∷ []) 0
-    -- to 15, to another; a transmit that went to 15 is answered by anyone
-    ∷ asked (0x0F ∷ 0x90 ∷ []) 2
-    ∷ asked (0x05 ∷ 0x90 ∷ []) 0
+    ∷ statusAsked (0x04 ∷ 0x00 ∷ 0x8F ∷ []) 1
+    ∷ statusAsked (0x04 ∷ 0x00 ∷ 0x9F ∷ 0x00 ∷ []) 0
+    ∷ statusAsked (0x04 ∷ 0x8F ∷ []) 0
+    -- to 15, to another; a transmit that went to 15 is answered by anyone, 15 too
+    ∷ statusAsked (0x0F ∷ 0x90 ∷ []) 2
+    ∷ statusAsked (0x05 ∷ 0x90 ∷ []) 0
+    ∷ statusAsked (0x0F ∷ 0x00 ∷ 0x8F ∷ []) 1
     ∷ record { sent = 0x4F ∷ 0x8F ∷ []; came = 0x54 ∷ 0x90 ∷ []; wanted = 0x90; gives = 2 }
+    ∷ record { sent = 0x4F ∷ 0x8F ∷ []; came = 0xF4 ∷ 0x90 ∷ []; wanted = 0x90; gives = 2 }
     -- 0xC0 and its pair: the wanted one comes before the other, and a Feature Abort is one
-    ∷ initiated 0xC1 (0x04 ∷ 0xC1 ∷ []) 2
-    ∷ initiated 0xC1 (0x04 ∷ 0xC2 ∷ []) 3
-    ∷ initiated 0xC2 (0x04 ∷ 0xC2 ∷ []) 2
-    ∷ initiated 0xC2 (0x04 ∷ 0xC1 ∷ []) 3
-    ∷ initiated 0xC1 (0x04 ∷ 0x00 ∷ 0xC0 ∷ 0x00 ∷ []) 1
-    ∷ initiated 0x90 (0x04 ∷ 0xC1 ∷ []) 0
-    ∷ initiated 0xC1 (0x54 ∷ 0xC2 ∷ []) 0
+    ∷ arcAsked 0xC1 (0x04 ∷ 0xC1 ∷ []) 2
+    ∷ arcAsked 0xC1 (0x04 ∷ 0xC2 ∷ []) 3
+    ∷ arcAsked 0xC2 (0x04 ∷ 0xC2 ∷ []) 2
+    ∷ arcAsked 0xC2 (0x04 ∷ 0xC1 ∷ []) 3
+    ∷ arcAsked 0xC1 (0x04 ∷ 0x00 ∷ 0xC0 ∷ 0x00 ∷ []) 1
+    ∷ arcAsked 0xC1 (0x0F ∷ 0xC2 ∷ []) 3
+    ∷ arcAsked 0xC1 (0x04 ∷ 0x00 ∷ 0xC1 ∷ []) 0
+    ∷ arcAsked 0xC1 (0x04 ∷ 0xC3 ∷ []) 0
+    ∷ arcAsked 0x90 (0x04 ∷ 0xC1 ∷ []) 0
+    ∷ arcAsked 0xC1 (0x54 ∷ 0xC2 ∷ []) 0
     ∷ record { sent = 0x40 ∷ 0xC3 ∷ []; came = 0x04 ∷ 0xC2 ∷ []; wanted = 0xC1; gives = 0 }
     -- with 0 wanted only a Feature Abort of what was sent
-    ∷ initiated 0x00 (0x04 ∷ 0x00 ∷ 0xC0 ∷ []) 1
-    ∷ initiated 0x00 (0x04 ∷ 0x00 ∷ 0x00 ∷ []) 0
-    ∷ initiated 0x00 (0x04 ∷ 0xC1 ∷ []) 0
+    ∷ arcAsked 0x00 (0x04 ∷ 0x00 ∷ 0xC0 ∷ []) 1
+    ∷ arcAsked 0x00 (0x04 ∷ 0x00 ∷ 0x00 ∷ []) 0
+    ∷ arcAsked 0x00 (0x04 ∷ 0xC1 ∷ []) 0
     ∷ record { sent = 0x40 ∷ 0x00 ∷ []; came = 0x04 ∷ 0x00 ∷ 0x00 ∷ []; wanted = 0x00; gives = 1 }
     -- lengths of 0, 1, 16 and 17, of what came and of what was sent
-    ∷ asked [] 0
-    ∷ asked (0x04 ∷ []) 0
-    ∷ asked (0x04 ∷ 0x90 ∷ replicate 14 0x00) 2
-    ∷ asked (0x04 ∷ 0x90 ∷ replicate 15 0x00) 0
+    ∷ statusAsked [] 0
+    ∷ statusAsked (0x04 ∷ []) 0
+    ∷ statusAsked (0x04 ∷ 0x90 ∷ replicate 14 0x00) 2
+    ∷ statusAsked (0x04 ∷ 0x90 ∷ replicate 15 0x00) 0
+    ∷ statusAsked (0x04 ∷ 0x00 ∷ 0x8F ∷ replicate 13 0x00) 1
+    ∷ statusAsked (0x04 ∷ 0x00 ∷ 0x8F ∷ replicate 14 0x00) 0
     ∷ record { sent = []; came = 0x04 ∷ 0x90 ∷ []; wanted = 0x90; gives = 0 }
     ∷ record { sent = 0x40 ∷ []; came = 0x04 ∷ 0x90 ∷ []; wanted = 0x90; gives = 0 }
     ∷ record { sent = 0x40 ∷ 0x8F ∷ replicate 14 0x00; came = 0x04 ∷ 0x90 ∷ []; wanted = 0x90; gives = 2 }

@@ -2,9 +2,9 @@
 ghost use mathlib.Core.Path.{_≡_};
 ghost use lib.ListN.{getD};
 ghost use Rattle.message.specs.Message.{contents};
-ghost use Rattle.message.specs.Prefix.{areBetween, prefixOf, prefixRule};
+ghost use Rattle.message.specs.Prefix.{answerRule, prefixOf, prefixRule};
 ghost use Rattle.message.specs.Reply.{hasOpcode, fromDestination, toInitiator, abortsSent, isWanted, isArcReport, isArcPair};
-ghost use Rattle.message.specs.Rule.{firstRule, answerRule, replyRule};
+ghost use Rattle.message.specs.Rule.{firstRule, mayMatch, replyRule};
 use crate::Message;
 use constants::CEC_LOG_ADDR_BROADCAST;
 use constants::CEC_MSG_FEATURE_ABORT;
@@ -12,14 +12,14 @@ use constants::CEC_MSG_INITIATE_ARC;
 use constants::CEC_MSG_REPORT_ARC_INITIATED;
 use constants::CEC_MSG_REPORT_ARC_TERMINATED;
 
-// The rule by which a message is a reply.
-pub const NO_MATCH: u8 = 0;
+// The rule by which a message is a reply: the first that holds.
+pub const RULE_NONE: u8 = 0;
 
-pub const FEATURE_ABORT: u8 = 1;
+pub const RULE_FEATURE_ABORT: u8 = 1;
 
-pub const WANTED_OPCODE: u8 = 2;
+pub const RULE_WANTED_OPCODE: u8 = 2;
 
-pub const ARC_PAIR: u8 = 3;
+pub const RULE_ARC_PAIR: u8 = 3;
 
 fn has_opcode(length: usize) -> bool
     ensures { λ r. ⌜ r ≡ hasOpcode length ⌝ }
@@ -68,12 +68,12 @@ fn first_rule(aborts: bool, wanted: bool, pair: bool) -> u8
     ensures { λ r. ⌜ r ≡ firstRule aborts wanted pair ⌝ }
 {
     if aborts {
-        return FEATURE_ABORT;
+        return RULE_FEATURE_ABORT;
     }
     if wanted {
-        return WANTED_OPCODE;
+        return RULE_WANTED_OPCODE;
     }
-    if pair { ARC_PAIR } else { NO_MATCH }
+    if pair { RULE_ARC_PAIR } else { RULE_NONE }
 }
 
 fn answer_rule(sent: u8, came: u8, length: usize, third: u8, wanted: u8) -> u8
@@ -112,8 +112,9 @@ fn prefix_of(s: &[u8]) -> Prefix
     }
 }
 
-fn are_between(sent: Prefix, came: Prefix) -> bool
-    ensures { λ r. ⌜ r ≡ areBetween sent came ⌝ }
+// What a match asks beside its rule: lengths, sender and destination.
+fn may_match(sent: Prefix, came: Prefix) -> bool
+    ensures { λ r. ⌜ r ≡ mayMatch (sent .length) (came .length) (sent .first) (came .first) ⌝ }
 {
     has_opcode(sent.length)
         & has_opcode(came.length)
@@ -124,10 +125,10 @@ fn are_between(sent: Prefix, came: Prefix) -> bool
 fn prefix_rule(sent: Prefix, came: Prefix, wanted: u8) -> u8
     ensures { λ r. ⌜ r ≡ prefixRule sent came wanted ⌝ }
 {
-    if are_between(sent, came) {
+    if may_match(sent, came) {
         answer_rule(sent.second, came.second, came.length, came.third, wanted)
     } else {
-        NO_MATCH
+        RULE_NONE
     }
 }
 
@@ -143,7 +144,7 @@ impl Message {
         }
     }
 
-    // The rule by which this message is the reply to the one that was sent, with this opcode wanted.
+    // The rule by which this message is the reply to the one that was sent, with this opcode wanted; 0 for no match.
     pub fn reply_rule(self, sent: Message, wanted: u8) -> u8
         ensures { λ r. ⌜ r ≡ replyRule (contents sent) (contents self) wanted ⌝ }
     {

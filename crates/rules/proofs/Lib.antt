@@ -6,7 +6,7 @@ pub mod Excluded
 pub mod Features
 pub mod Tracker
 pub mod Entries
-pub mod Shown
+pub mod Opcodes
 pub mod Accepted
 pub mod CoreSends
 pub mod Deliveries

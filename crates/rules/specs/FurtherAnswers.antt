@@ -453,9 +453,13 @@ replyAnswers =
     -- the wanted one where none came: timeout, unconfigure
     ∷ record { start = bench true; calls = awaiting 0xC0 0xC1 500 0 (callTime 500 ∷ callReceive 0 ∷ []); gives = got 1 0x00 0x02 2 0xC1 }
     ∷ record { start = bench true; calls = awaiting 0xC0 0xC1 500 0 (callUnconfigure ∷ callReceive 0 ∷ []); gives = got 1 0x00 0x08 2 0xC1 }
+    -- two waits ended at once, each with its own
+    ∷ record { start = bench true; calls = awaiting 0xC0 0xC1 500 0 (awaiting 0x8F 0x90 500 0 (callTime 500 ∷ callReceive 0 ∷ [])); gives = got 1 0x00 0x02 2 0xC1 }
+    ∷ record { start = bench true; calls = awaiting 0xC0 0xC1 500 0 (awaiting 0x8F 0x90 500 0 (callTime 500 ∷ callReceive 0 ∷ callReceive 0 ∷ [])); gives = got 2 0x00 0x02 2 0x90 }
     -- a wait that only a Feature Abort ends: 0 was wanted
     ∷ record { start = bench true; calls = awaiting 0x8F 0x00 500 0 (incoming (0x04 ∷ 0x00 ∷ 0x8F ∷ []) ∷ callReceive 0 ∷ []); gives = got 1 0x00 0x05 3 0x00 }
     ∷ record { start = bench true; calls = awaiting 0x8F 0x00 500 0 (callTime 500 ∷ callReceive 0 ∷ []); gives = got 1 0x00 0x02 2 0x00 }
+    ∷ record { start = bench true; calls = awaiting 0x8F 0x00 500 0 (callUnconfigure ∷ callReceive 0 ∷ []); gives = got 1 0x00 0x08 2 0x00 }
     -- results show 0, those of unconfigure too, though a reply was wanted
     ∷ record { start = bench true; calls = asking 0 ∷ callBusStart ∷ ok ∷ callReceive 0 ∷ []; gives = got 1 0x01 0x00 2 0x00 }
     ∷ record { start = bench true; calls = asking 0 ∷ callUnconfigure ∷ callReceive 0 ∷ []; gives = got 1 0x40 0x00 2 0x00 }
@@ -463,6 +467,10 @@ replyAnswers =
     ∷ record { start = bench true; calls = callOpen true ∷ callMode 1 0x11 ∷ awaiting 0x8F 0x90 0 1 (incoming (0x04 ∷ 0x90 ∷ 0x00 ∷ []) ∷ callReceive 1 ∷ []); gives = got 0 0x00 0x01 3 0x00 }
     ∷ record { start = bench true; calls = awaiting 0x8F 0x90 0 0 (callMode 0 0xE0 ∷ incoming (0x04 ∷ 0x90 ∷ 0x00 ∷ []) ∷ callReceive 0 ∷ []); gives = got 0 0x00 0x01 3 0x00 }
     ∷ record { start = bench true; calls = awaiting 0x8F 0x90 0 0 (callMode 0 0xE0 ∷ incoming (0x04 ∷ 0x90 ∷ 0x00 ∷ []) ∷ callReceive 0 ∷ callReceive 0 ∷ []); gives = got 1 0x00 0x01 3 0x90 }
+    -- the owner as a follower gets both; a copy of a Feature Abort
+    ∷ record { start = bench true; calls = callMode 0 0x11 ∷ awaiting 0x8F 0x90 0 1 (incoming (0x04 ∷ 0x90 ∷ 0x00 ∷ []) ∷ callReceive 0 ∷ []); gives = got 1 0x00 0x01 3 0x90 }
+    ∷ record { start = bench true; calls = callMode 0 0x11 ∷ awaiting 0x8F 0x90 0 1 (incoming (0x04 ∷ 0x90 ∷ 0x00 ∷ []) ∷ callReceive 0 ∷ callReceive 0 ∷ []); gives = got 0 0x00 0x01 3 0x00 }
+    ∷ record { start = bench true; calls = callOpen true ∷ callMode 1 0x11 ∷ awaiting 0x8F 0x90 0 1 (incoming (0x04 ∷ 0x00 ∷ 0x8F ∷ 0x00 ∷ []) ∷ callReceive 1 ∷ []); gives = got 0 0x00 0x01 4 0x00 }
     -- a monitor's copy of the result of a transmit that wants a reply
     ∷ record { start = bench true; calls = asking 0 ∷ callMode 0 0xE0 ∷ callBusStart ∷ ok ∷ callReceive 0 ∷ []; gives = got 0 0x01 0x00 2 0x00 }
     ∷ []

@@ -30,7 +30,7 @@ monitors s m mode = isMonitor mode && (eqb (followerPart mode) CEC-MODE-MONITOR-
 abbrev pub stops : State → Message → Bool
 stops s m = not (isConfigured s) || eqb (m .length) 1 || not (isHere s (destination (m .bytes)))
 
--- 3. "its handle gets the message under that number, rx_status 0x01, or 0x05 for Feature Abort"
+-- 3. "its handle gets the message under that number, rx_status 0x01, or 0x05 for Feature Abort", and the opcode that came (document 02, W-207)
 abbrev pub replyEntry : ℕ → Message → Entry
 replyEntry number m = cond (isFeatureAbort (opcode (m .bytes))) (featureAbortReply number m) (reply number m)
 

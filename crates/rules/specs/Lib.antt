@@ -18,7 +18,7 @@ pub mod Unconfigure
 pub mod Core
 pub mod Features
 pub mod Incoming
-pub mod Shown
+pub mod Opcodes
 pub mod Tracker
 pub mod Lookup
 pub mod Listing

@@ -7,7 +7,7 @@ use inbox::count_at;
 use parts::Done;
 use parts::Parts;
 
-// Each wait with no more left than that ends by an entry for its owner, with the sent length and bytes, least time left first, oldest first where equal. Others are reduced.
+// Each wait with no more left than that ends by an entry for its owner, with the sent length and bytes and the opcode wanted, least time left first, oldest first where equal. Others are reduced.
 pub fn time(mut parts: Parts, ms: u32) -> Done
     ensures { λ r. ⌜ doneOf r ≡ doTime (stateOf parts) ms ⌝ }
 {

@@ -61,7 +61,7 @@ fn abort_queue(inboxes: Inboxes, queue: Queue) -> Inboxes
     after
 }
 
-// The reply entry of a wait that ends: its number, rx_status 0x08, and the sent length and bytes.
+// The reply entry of a wait that ends: its number, rx_status 0x08, the sent length and bytes, and the opcode wanted.
 fn abort_wait(inboxes: Inboxes, wait: Wait) -> Inboxes
     ensures { λ r. ⌜ inboxesOf r ≡ delivered (inboxesOf inboxes) (wait .owner) (abortEntry wait) ⌝ }
 {

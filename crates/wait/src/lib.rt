@@ -37,7 +37,7 @@ impl Wait {
         if self.owner == handle { 1 } else { 0 }
     }
 
-    // The rule by which a message ends it.
+    // The rule by which a message ends it; 0 if it does not.
     pub fn rule_for(self, message: Message) -> u8
         ensures { λ r. ⌜ r ≡ ruleFor message self ⌝ }
     {

@@ -11,7 +11,7 @@ ghost use Rattle.lists.specs.Vector.{put};
 ghost use Rattle.wait.specs.Wait.{noWait, ownedBy, numbered, leftOf, reduced};
 ghost use Rattle.waits.specs.Waits.{waitsOf, matchIn, takenOf, takenAt, dueAt, dueTaken, withoutHandle};
 use message::Message;
-use message::reply::NO_MATCH;
+use message::reply::RULE_NONE;
 use wait::Wait;
 
 #[repr(C)]
@@ -133,7 +133,7 @@ impl Waits {
         let mut place = 0;
         while place < n {
             let rule = self.slots[place].rule_for(message);
-            if rule != NO_MATCH {
+            if rule != RULE_NONE {
                 return Match {
                     place: place,
                     rule: rule,
@@ -143,7 +143,7 @@ impl Waits {
         }
         Match {
             place: n,
-            rule: NO_MATCH,
+            rule: RULE_NONE,
         }
     }
 

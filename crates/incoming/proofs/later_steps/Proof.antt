@@ -17,6 +17,9 @@ work-for-requires c κs = search needs
 choose-requires : tie.Need-choose-requires
 choose-requires c κs = search needs
 
+rule-requires : tie.Need-rule-requires
+rule-requires c κs = search needs
+
 sent-requires : tie.Need-sent-requires
 sent-requires c κs = search needs
 
@@ -28,14 +31,15 @@ receivers-requires c κs = search needs
 
 returns : tie.Need-returns
 returns c =
-    let chooses = c .before .before .before .before .before .before .before in
+    let sends = c .before .before .before in
+    let rules = sends .before .before .before .before in
+    let chooses = rules .before in
     let works = chooses .before .before in
     let finds = works .before in
     let matches = finds .before .before in
     let a = matches .before .before .args in
-    let sends = c .before .before .before in
     rw
-    (c .receivers .ensures, c .before .follower-kind .ensures, sends .sent .ensures, chooses .choose .ensures, works .work-for .ensures)
+    (c .receivers .ensures, c .before .follower-kind .ensures, sends .sent .ensures, rules .rule .ensures, chooses .choose .ensures, works .work-for .ensures)
     (rw (finds .at .ensures, matches .first-match .ensures, match-found (a .message) (waitsOf (a .parts .waits))))
 
 pub later-steps-spec : {M : Type 1} → statement M
@@ -46,6 +50,7 @@ later-steps-spec =
     at-requires
     work-for-requires
     choose-requires
+    rule-requires
     sent-requires
     follower-kind-requires
     receivers-requires

@@ -13,10 +13,11 @@ use Rattle.inbox.proofs.Arrays.{left-out, room-within, stored}
 use Rattle.incoming.proofs.Outcome.{Change, activeParts, message-outcome, replied-state}
 use Rattle.incoming.proofs.Receivers.{nobody-copies}
 use Rattle.incoming.proofs.Turns.{doCopies, doNote, doReply, doSend}
-use Rattle.incoming.specs.Steps.{receiversOf, replyEntryBy}
+use Rattle.incoming.specs.Steps.{entryByRule, receiversOf}
 use Rattle.incoming.specs.Work.{toDoOf}
 use Rattle.incoming.specs.declared.ToDo.{ToDo}
 use Rattle.lists.specs.Tests.{clash}
+use Rattle.message.specs.Rule.{RULE-NONE}
 use Rattle.message.specs.declared.Message.{Message}
 use Rattle.parts.proofs.Arrays.{LongParts, parts-long}
 use Rattle.parts.specs.Parts.{doneOf, stateOf}
@@ -111,25 +112,25 @@ copies-requires-2 c κs = search needs
 -- what the call was given, and what it has found, before the copies for followers
 module _ (c : tie.Joined5) where
   abbrev toDo : ToDo
-  toDo = c .before .before .before .later-steps .result
+  toDo = c .before .before .before .before .later-steps .result
 
   abbrev message : Message
-  message = let sees = c .before .before .before .before .before .before in sees .before .before .before .before .before .before .new .result
+  message = let sees = c .before .before .before .before .before .before .before in sees .before .before .before .before .before .before .new .result
 
   abbrev active : ℕ
-  active = let sees = c .before .before .before .before .before .before in sees .before .before .before .before .before .active-after .result
+  active = let sees = c .before .before .before .before .before .before .before in sees .before .before .before .before .before .active-after .result
 
   abbrev errno : ℕ
-  errno = let sees = c .before .before .before .before .before .before in sees .before .before .before .before .before .before .before .message-errno .result
+  errno = let sees = c .before .before .before .before .before .before .before in sees .before .before .before .before .before .before .before .message-errno .result
 
   abbrev given : Parts
-  given = let sees = c .before .before .before .before .before .before in sees .before .before .before .before .before .before .before .before .args .t1
+  given = let sees = c .before .before .before .before .before .before .before in sees .before .before .before .before .before .before .before .before .args .t1
 
   abbrev size : ℕ
-  size = let sees = c .before .before .before .before .before .before in sees .before .before .before .before .before .before .before .before .args .length
+  size = let sees = c .before .before .before .before .before .before .before in sees .before .before .before .before .before .before .before .before .args .length
 
   abbrev bytes : List ℕ
-  bytes = let sees = c .before .before .before .before .before .before in sees .before .before .before .before .before .before .before .before .args .bytes
+  bytes = let sees = c .before .before .before .before .before .before .before in sees .before .before .before .before .before .before .before .before .args .bytes
 
 before-copies : (c : tie.Joined5) (q : Parts)
     → Change (c .if5 .parts) (doCopies (toDo c) (message c) (stateOf (c .if5 .parts))) (toDo c .followers ≡ NOBODY) q
@@ -137,7 +138,7 @@ before-copies : (c : tie.Joined5) (q : Parts)
 before-copies c q last =
     let j4 = c .before in
     let j2 = j4 .before in
-    let done = j2 .before in
+    let done = j2 .before .before in
     let j1 = done .before .before in
     let sees = j1 .before in
     let there = sees .before .before in
@@ -162,15 +163,15 @@ before-copies c q last =
     let p2 = j2 .if2 .parts in
     let h = x .owner in
     let s1 = stateOf p1 in
-    let replied : Change p1 (doReply x m s1) (x .replies ≡ false) p2 =
+    let replied : Change p1 (doReply x m s1) (x .rule ≡ RULE-NONE) p2 =
     ⊎-elim
     (λ w.
-    let reply = replied-state s1 (x .replies) _ _ _ h _ _ (w .0 .taken) (w .2 .ensures) (w .7 .ensures) in
-    (ap stateOf (w .8) ∙ reply (stored (p1 .entries) (p1 .counts) long h _ _ (w .4 .ensures .0) (w .6 .taken)), λ z. clash (w .0 .taken) z))
+    let reply = replied-state s1 (x .rule) _ _ _ h _ _ (w .0 .taken) (w .2 .ensures) (w .7 .ensures) in
+    (ap stateOf (w .8) ∙ reply (stored (p1 .entries) (p1 .counts) long h _ _ (w .4 .ensures .0) (w .6 .taken)), λ z. absurd (w .0 .taken z)))
     (⊎-elim
     (λ w.
-    let reply = replied-state s1 (x .replies) _ _ _ h (replyEntryBy (x .rule) (x .sequence) m) _ (w .0 .taken) (w .2 .ensures) refl in
-    (ap stateOf (w .7) ∙ reply (left-out (p1 .entries) (p1 .counts) long h _ _ (w .4 .ensures .0) (w .6 .left)), λ z. clash (w .0 .taken) z))
+    let reply = replied-state s1 (x .rule) _ _ _ h (entryByRule (x .rule) (x .sequence) m) _ (w .0 .taken) (w .2 .ensures) refl in
+    (ap stateOf (w .7) ∙ reply (left-out (p1 .entries) (p1 .counts) long h _ _ (w .4 .ensures .0) (w .6 .left)), λ z. absurd (w .0 .taken z)))
     (λ w. (ap stateOf (w .1) ∙ rw (w .0 .left), λ _. w .1)))
     (j2 .if2 .came) in
     let p3 = j4 .if4 .parts in

@@ -7,7 +7,7 @@ use lib.ListN.{getD, take}
 use borrow.Author.Needs.{needs}
 use Rattle.lists.specs.Sums.{any}
 use Rattle.lists.specs.Vector.{first-found, any-passed, first-missed, slot-read}
-use Rattle.message.specs.Rule.{NO-MATCH}
+use Rattle.message.specs.Rule.{RULE-NONE}
 use Rattle.wait.specs.Wait.{noWait, answeredBy, ruleFor}
 use Rattle.waits.proofs.Slots.{zeroWait}
 use Rattle.waits.proofs.Matches.{rule-met, rule-missed, rule-past, match-at}
@@ -67,7 +67,7 @@ returns-2 c =
     let l = c .before .loop in
     let n = c .before .before .count in
     let missed = first-missed (a .t1 .slots) (a .t1 .count) _ (n .ensures .0) (answeredBy (a .message)) (l .place) (omega arith) (l .inv .1) in
-    match-at (a .message) (waitsOf (a .t1)) (n .result) NO-MATCH missed (sym (rule-past (a .message) (waitsOf (a .t1)) (n .result) (omega (arith, n .ensures .0))))
+    match-at (a .message) (waitsOf (a .t1)) (n .result) RULE-NONE missed (sym (rule-past (a .message) (waitsOf (a .t1)) (n .result) (omega (arith, n .ensures .0))))
 
 pub first-match-spec : {M : Type 1} → statement M
 first-match-spec =

@@ -1,7 +1,7 @@
--- What an entry shows of the reply, a line for each kind (document 02, W-207).
+-- The opcode of the reply that each kind of entry shows (document 02, W-207). `guarantee`: Opcodes says it of every entry after any calls.
 -- Assumes nothing.
 use Prim.Native.Nat.{ℕ}
-use mathlib.Core.Bool.{true}
+use mathlib.Core.Bool.{true, cond}
 use mathlib.Core.Path.{_≡_}
 use lib.Dec.{eqb}
 use lib.ListN.{getD}
@@ -9,7 +9,7 @@ use Rattle.entry.specs.Entry.{result, resultCopy, messageCopy}
 use Rattle.entry.specs.declared.Counts.{Counts}
 use Rattle.message.specs.Message.{contents, isFeatureAbort}
 use Rattle.message.specs.Reply.{isWanted}
-use Rattle.message.specs.Rule.{FEATURE-ABORT, firstRule}
+use Rattle.message.specs.Rule.{RULE-FEATURE-ABORT, firstRule}
 use Rattle.message.specs.declared.Message.{Message}
 use Rattle.rules.specs.Incoming.{replyEntry}
 use Rattle.rules.specs.Time.{timeoutEntry}
@@ -18,7 +18,7 @@ use Rattle.transmission.specs.declared.Transmission.{Transmission}
 use Rattle.wait.specs.Wait.{answeredBy, ruleFor}
 use Rattle.wait.specs.declared.Wait.{Wait}
 
-pub record ReplyShown : Type 0 where
+pub record OpcodesByKind : Type 0 where
   -- "Results and copies show 0."
   pub results : (n status : ℕ) (c : Counts) (m : Message) → result n status c m .reply ≡ 0
   pub abortedResults : (t : Transmission) → abortedResult t .reply ≡ 0
@@ -27,10 +27,10 @@ pub record ReplyShown : Type 0 where
   -- "timeouts and aborted waits show the wanted one"
   pub timeouts : (w : Wait) → timeoutEntry w .reply ≡ w .reply
   pub abortedWaits : (w : Wait) → abortEntry w .reply ≡ w .reply
-  -- "Each reply entry also shows the opcode that really came"
-  pub replies : (m : Message) (w : Wait) → answeredBy m w ≡ true → replyEntry (w .sequence) m .reply ≡ getD (contents m) 1 0
+  -- "Each reply entry also shows the opcode that really came", under any number
+  pub replies : (n : ℕ) (m : Message) (w : Wait) → answeredBy m w ≡ true → replyEntry n m .reply ≡ getD (contents m) 1 0
   -- so it tells the rule: 0x00, the opcode wanted, or the other of the pair
-  pub rules : (m : Message) (w : Wait) → answeredBy m w ≡ true
-      → ruleFor m w ≡ firstRule (isFeatureAbort (replyEntry (w .sequence) m .reply)) (isWanted (replyEntry (w .sequence) m .reply) (w .reply)) true
+  pub rules : (n : ℕ) (m : Message) (w : Wait) → answeredBy m w ≡ true
+      → ruleFor m w ≡ firstRule (isFeatureAbort (replyEntry n m .reply)) (isWanted (replyEntry n m .reply) (w .reply)) true
   -- and rx_status is 0x05 exactly for rule 1
-  pub statuses : (m : Message) (w : Wait) → answeredBy m w ≡ true → eqb (replyEntry (w .sequence) m .«rx_status») 0x05 ≡ eqb (ruleFor m w) FEATURE-ABORT
+  pub statuses : (n : ℕ) (m : Message) (w : Wait) → answeredBy m w ≡ true → replyEntry n m .«rx_status» ≡ cond (eqb (ruleFor m w) RULE-FEATURE-ABORT) 0x05 0x01

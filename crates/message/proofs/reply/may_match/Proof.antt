@@ -1,7 +1,7 @@
--- `message::reply::are_between` meets its contract. Assumes nothing.
+-- `message::reply::may_match` meets its contract. Assumes nothing.
 use borrow.Author.Needs.{needs}
-use Rattle.message.proofs.reply.are_between.Statement.{statement}
-use Rattle.message.proofs.reply.are_between.Tie as tie
+use Rattle.message.proofs.reply.may_match.Statement.{statement}
+use Rattle.message.proofs.reply.may_match.Tie as tie
 
 has-opcode-requires : tie.Need-has-opcode-requires
 has-opcode-requires c κs = search needs
@@ -20,8 +20,8 @@ returns c =
     let from = c .before in
     rw (c .to-initiator .ensures, from .from-destination .ensures, from .before .has-opcode2 .ensures, from .before .before .has-opcode .ensures)
 
-pub are-between-spec : {M : Type 1} → statement M
-are-between-spec =
+pub may-match-spec : {M : Type 1} → statement M
+may-match-spec =
     tie.close
     (tie.spec
     has-opcode-requires
