@@ -1,4 +1,4 @@
--- Histories that no adapter may have, each with one thing wrong: the claim is false of each. So with modes.
+-- Histories that no adapter may have, each with one thing wrong: the claim is false of each. So with the opcode of a timeout, and with modes.
 -- Assumes nothing.
 use Prim.Native.Nat.{ℕ}
 use mathlib.Core.Bool.{true, false}
@@ -6,11 +6,12 @@ use mathlib.Core.List.{List, [], _∷_}
 use mathlib.Core.Path.{refl, ap}
 use native.Mathlib.Omega.{arith}
 use lib.ListN.{length, replicate}
-use Rattle.entry.specs.Entry.{noCounts, result, reply, messageCopy}
+use Rattle.entry.specs.Entry.{noCounts, result, reply, timedOut, messageCopy}
 use Rattle.entry.specs.declared.Entry.{Entry}
 use Rattle.guarantee.proofs.Histories.{asks, tells}
 use Rattle.guarantee.specs.Claim.{Kept}
 use Rattle.guarantee.specs.Modes.{ModesHeld}
+use Rattle.guarantee.specs.Opcodes.{WantedShown}
 use Rattle.lists.specs.Tests.{clash}
 use Rattle.message.specs.Message.{message}
 use Rattle.message.specs.declared.Message.{Message}
@@ -125,6 +126,13 @@ other = call (callBusResult 0x01 noCounts) done (state [] []) (state [] [])
 
 pub forgotten : Kept (asked ∷ replicate 19 other) → ⊥
 forgotten k = let z = k .transmits [] asked (replicate 19 other) refl 0 asks 1 refl refl .oneResult refl (omega arith) in omega arith
+
+-- ---- a timeout that shows another opcode than was wanted
+abbrev expired : ℕ → Step
+expired code = call (callTime 1000) done (state (ok ∷ []) []) (state (ok ∷ timedOut 1 m code ∷ []) [])
+
+pub other-opcode : WantedShown (asked ∷ sent (ok ∷ []) [] ∷ expired 0x91 ∷ []) → ⊥
+other-opcode k = let z = k [] asked (sent (ok ∷ []) [] ∷ expired 0x91 ∷ []) refl 0 asks 1 refl refl in omega arith
 
 -- ---- modes that no adapter may have
 -- handles 0 and 1 in these modes, handle 1 without privilege

@@ -48,7 +48,7 @@ ok-less n h s c o = sum-le (λ e. bit (isOkResult n e)) (λ e. bit (isResult n e
     less false b = omega arith
 
 -- copies bear number 0, and are of no kind of entry under another number
-other-number : (n : ℕ) (e : Entry) → n ≢ 0 → e .sequence ≡ 0 → eqb (e .sequence) n ≡ false
+pub other-number : (n : ℕ) (e : Entry) → n ≢ 0 → e .sequence ≡ 0 → eqb (e .sequence) n ≡ false
 other-number n e d z = rw z (ne-eqb 0 n (λ (p : 0 ≡ n). d (sym p)))
 
 module _ (n : ℕ) (d : n ≢ 0) where
@@ -84,13 +84,13 @@ module _ (s : State) (c : Call) (t : State) (e : Ends s c t) (h : ℕ) (l : h < 
       )
 
   -- entries of a kind that copies are not of are counted over the transmissions and waits that end
-  ended-brought : (p : Entry → Bool) → Numbered (λ x. bit (p x)) → brought p h s c (finish done t)
+  pub ended-brought : (p : Entry → Bool) → Numbered (λ x. bit (p x)) → brought p h s c (finish done t)
       ≡ sum (λ x. cond (eqb (x .owner) h) (bit (p (e .by .resultOf x))) 0) (e .sent) + sum (λ w. cond (ownedBy h w) (bit (p (e .by .replyOf w))) 0) (e .over)
   unfolding brought
   ended-brought p z = ap (count p) ended-came ∙ e .comes h l .mail .counted (λ x. bit (p x)) z ∙ entries-sum (λ x. bit (p x))
 
   -- a weight of 0
-  none-kept : {A : Type 0} (b : A → Bool) (f : A → ℕ) (xs : List A) → ((x : A) → f x ≡ 0) → sum (λ x. cond (b x) (f x) 0) xs ≡ 0
+  pub none-kept : {A : Type 0} (b : A → Bool) (f : A → ℕ) (xs : List A) → ((x : A) → f x ≡ 0) → sum (λ x. cond (b x) (f x) 0) xs ≡ 0
   none-kept b f xs z = sum-zero (λ x. cond (b x) (f x) 0) xs (λ x. split (b x) (λ q. rw q (z x)) (λ q. rw q))
 
   module _ (n : ℕ) (d : n ≢ 0) where
@@ -102,7 +102,7 @@ module _ (s : State) (c : Call) (t : State) (e : Ends s c t) (h : ℕ) (l : h < 
     result-not x = let z = e .by .results x in rw (z .received, and-false)
 
     -- a reply shows its number and a receive status, and no status of a transmit
-    reply-is : (w : Wait) → isReplyEntry n (e .by .replyOf w) ≡ eqb (w .sequence) n
+    pub reply-is : (w : Wait) → isReplyEntry n (e .by .replyOf w) ≡ eqb (w .sequence) n
     reply-is w = let z = e .by .replies w in rw (z .sequence, ne-eqb (e .by .replyOf w .«rx_status») 0 (z .received)) (and-true (eqb (w .sequence) n))
 
     reply-not : (w : Wait) → isResult n (e .by .replyOf w) ≡ false

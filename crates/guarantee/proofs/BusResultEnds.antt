@@ -148,6 +148,7 @@ module _ (s : State) (x : Transmission) (r : Inv s) (w : s .wire ≡ x ∷ []) w
         replyOf = timeoutEntry;
         results = λ t. result-shows (t .sequence) status kept (t .message);
         replies = λ v. shown-reply (timeoutEntry-shows v) (omega arith);
+        wanted = λ v _. refl;
       };
       comes = λ h l. comes resultOf timeoutEntry h l s copied copied (concluded s x status kept) (x ∷ []) [] r aside refl refl (owed-less h l);
       closes = λ h. refl;

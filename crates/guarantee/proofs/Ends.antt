@@ -4,11 +4,11 @@ use Prim.Native.Nat.{ℕ, _+_, _-_, _≤_, _<_}
 use mathlib.Core.Bool.{false, cond, _&&_}
 use mathlib.Core.List.{List, [], map}
 use mathlib.Core.Logic.{_≢_}
-use mathlib.Core.Path.{_≡_, _∙_, sym}
+use mathlib.Core.Path.{_≡_, refl, _∙_, sym}
 use native.Mathlib.Omega.{arith}
 use lib.Dec.{ltb}
 use lib.ListN.{length}
-use Rattle.constants.specs.Kernel.{CEC-TX-STATUS-OK, CEC-TX-STATUS-ABORTED}
+use Rattle.constants.specs.Kernel.{CEC-TX-STATUS-OK, CEC-TX-STATUS-ABORTED, CEC-RX-STATUS-OK}
 use Rattle.entry.specs.declared.Entry.{Entry}
 use Rattle.guarantee.proofs.Carried.{sentAs, waitingAs}
 use Rattle.guarantee.proofs.Comes.{Comes, entriesTo, comes-aside}
@@ -49,6 +49,10 @@ pub record Replies (number : ℕ) (e : Entry) : Type 0 where
 pub shown-reply : {n rx : ℕ} {e : Entry} → Shows n 0 rx e → rx ≢ 0 → Replies n e
 shown-reply x d = record { sequence = x .sequence; transmitted = x .transmitted; received = λ z. d (sym (x .received) ∙ z) }
 
+-- a wait that ends without a reply shows the opcode that was wanted (document 02, W-207)
+abbrev pub ShowsWanted : (Wait → Entry) → Type 0
+ShowsWanted replyOf = (w : Wait) → hasBit CEC-RX-STATUS-OK (replyOf w .«rx_status») ≡ false → replyOf w .reply ≡ w .reply
+
 -- with what status transmissions end, and the entries by which they and the waits end
 pub record Ending : Type 0 where
   pub status : ℕ
@@ -57,10 +61,11 @@ pub record Ending : Type 0 where
   pub replyOf : Wait → Entry
   pub results : (x : Transmission) → Shows (x .sequence) status 0 (resultOf x)
   pub replies : (w : Wait) → Replies (w .sequence) (replyOf w)
+  pub wanted : ShowsWanted replyOf
 
 -- transmissions are aborted
-abbrev pub aborts : (replyOf : Wait → Entry) → ((w : Wait) → Replies (w .sequence) (replyOf w)) → Ending
-aborts replyOf replies = record { status = CEC-TX-STATUS-ABORTED; final = omega arith; resultOf = abortedResult; replyOf = replyOf; results = abortedResult-shows; replies = replies }
+abbrev pub aborts : (replyOf : Wait → Entry) → ((w : Wait) → Replies (w .sequence) (replyOf w)) → ShowsWanted replyOf → Ending
+aborts replyOf replies wanted = record { status = CEC-TX-STATUS-ABORTED; final = omega arith; resultOf = abortedResult; replyOf = replyOf; results = abortedResult-shows; replies = replies; wanted = wanted }
 
 -- from s the call leads to t
 pub record Ends (s : State) (c : Call) (t : State) : Type 0 where
@@ -91,7 +96,7 @@ unfolding waitingAs
 aside-ends s t c r a close bus time = record {
   sent = [];
   over = [];
-  by = aborts abortEntry (λ w. shown-reply (abortEntry-shows w) (omega arith));
+  by = aborts abortEntry (λ w. shown-reply (abortEntry-shows w) (omega arith)) (λ w _. refl);
   comes = λ h l. comes-aside h l s t r a;
   closes = close;
   modes = a .modes;

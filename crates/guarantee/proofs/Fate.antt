@@ -36,7 +36,7 @@ one-handle : (p : Entry → Bool) (h : ℕ) (xs : List Step) → h < 8 → ((g :
 one-handle p h xs l e = omega (arith, upto-one (λ g. cameTo p g xs) h 8 l e)
 
 -- or nothing at all
-no-handle : (p : Entry → Bool) (xs : List Step) → ((g : ℕ) → g < 8 → cameTo p g xs ≡ 0) → cameToAny p xs ≡ 0
+pub no-handle : (p : Entry → Bool) (xs : List Step) → ((g : ℕ) → g < 8 → cameTo p g xs ≡ 0) → cameToAny p xs ≡ 0
 no-handle p xs e = omega (arith, upto-one (λ g. cameTo p g xs) 0 8 (omega arith) (λ g l _. e g l), e 0 (omega arith))
 
 -- what comes with one step of a history comes with the history

@@ -4,7 +4,7 @@ use Prim.Native.Nat.{ℕ, _+_, _-_, _≤_}
 use mathlib.Core.Bool.{Bool, true, false, not}
 use mathlib.Core.Path.{_≡_, ap}
 use native.Mathlib.Omega.{arith}
-use lib.Dec.{ltb}
+use lib.Dec.{eqb, ltb}
 use Rattle.guarantee.proofs.Brought.{brought, silent-brought}
 use Rattle.guarantee.proofs.Carried.{sentAs, awaitedAs, always, sendingAs, waitingAs, sending, waiting, placed, unused}
 use Rattle.guarantee.proofs.Cases.{Silent}
@@ -25,6 +25,13 @@ wanting t = t .«wants_reply»
 
 abbrev pub unwanting : Transmission → Bool
 unwanting t = not (t .«wants_reply»)
+
+-- another opcode than k wanted, by a transmission and by a wait
+abbrev pub otherSent : ℕ → Transmission → Bool
+otherSent k t = not (eqb (t .reply) k)
+
+abbrev pub otherAwaited : ℕ → Wait → Bool
+otherAwaited k w = not (eqb (w .reply) k)
 
 -- more time than b: the timeout of a transmission, the time left of a wait
 abbrev pub longer : ℕ → Transmission → Bool

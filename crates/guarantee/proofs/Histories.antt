@@ -7,8 +7,9 @@ use mathlib.Core.Path.{_≡_, refl}
 use lib.ListN.{drop, replicate, length}
 use Rattle.entry.specs.Entry.{noCounts}
 use Rattle.guarantee.specs.Claim.{enoughResults}
+use Rattle.guarantee.specs.Opcodes.{showsOther}
 use Rattle.guarantee.specs.Room.{handleWaits, allWaits}
-use Rattle.guarantee.specs.Seen.{came, gave, results, okResults, replies, busResults, closings, elapsed, own, sinceOpen, joined}
+use Rattle.guarantee.specs.Seen.{came, cameToAny, gave, results, okResults, replies, busResults, closings, elapsed, own, sinceOpen, joined}
 use Rattle.lists.specs.Sums.{count}
 use Rattle.rules.proofs.KnownAnswers.{every-rule}
 use Rattle.rules.specs.Call.{Call, Request, accepted, callOpen, callClose, callTransmit, callReceive, callBusStart, callBusResult, callMessage, callTime, callConfigure, callUnconfigure}
@@ -76,6 +77,15 @@ ended = history (callBusStart ∷ callBusResult 0x01 noCounts ∷ callBusStart �
 all-ended : (seen 1 (drop 4 ended) ≡ 1 ∷ 1 ∷ 1 ∷ 1 ∷ 0 ∷ 0 ∷ []) × (seen 2 (drop 5 ended) ≡ 1 ∷ 0 ∷ 0 ∷ 1 ∷ 0 ∷ 0 ∷ [])
 unfolding every-rule
 all-ended = (refl, refl)
+
+-- entries of number n that end its wait without a reply, and show another opcode than 0x90, which was wanted, and than 0x91
+abbrev shown : ℕ → List Step → List ℕ
+shown n later = cameToAny (showsOther n 0x90) (own n later) ∷ cameToAny (showsOther n 0x91) (own n later) ∷ []
+
+-- a timeout and an aborted wait show 0x90; a reply, and the result of an unconfigure, end no wait so
+wanted-shown : (shown 2 (drop 5 closed) ≡ 0 ∷ 1 ∷ []) × (shown 1 (drop 4 ended) ≡ 0 ∷ 1 ∷ []) × (shown 1 (drop 4 answered) ≡ 0 ∷ 0 ∷ []) × (shown 2 (drop 5 ended) ≡ 0 ∷ 0 ∷ [])
+unfolding every-rule
+wanted-shown = (refl, refl, refl, refl)
 
 -- ---- the numbers of the claim and of the room are reached
 -- calls k times, and then others

@@ -8,6 +8,7 @@ use native.Mathlib.Omega.{arith}
 use lib.Dec.{ltb}
 use lib.ListN.{length, getD, length-set}
 use borrow.Author.Tests.{ltb-true}
+use Rattle.constants.specs.Kernel.{CEC-RX-STATUS-OK}
 use Rattle.entry.specs.Entry.{messageCopy}
 use Rattle.entry.specs.declared.Entry.{Entry}
 use Rattle.guarantee.proofs.Carried.{awaitedAs, waitingAs}
@@ -17,7 +18,7 @@ use Rattle.guarantee.proofs.Invariant.{Inv, spent}
 use Rattle.lists.specs.Last.{last-more}
 use Rattle.lists.specs.Places.{first, without, sum-without}
 use Rattle.lists.specs.Sums.{count}
-use Rattle.lists.specs.Tests.{bit, split}
+use Rattle.lists.specs.Tests.{bit, split, clash}
 use Rattle.message.specs.Message.{opcode, isFeatureAbort}
 use Rattle.message.specs.declared.Message.{Message}
 use Rattle.rules.proofs.Aside.{Aside, aside-trans, aside-pending, aside-sum, core-weightless, room-owned, copies-aside, notes-aside, answers-aside, followed-aside, refusedMessage-aside}
@@ -26,7 +27,7 @@ use Rattle.rules.proofs.SameModes.{modes-trans, same-open}
 use Rattle.rules.specs.Call.{Call, callMessage}
 use Rattle.rules.specs.Core.{answers, notes}
 use Rattle.rules.specs.Deliver.{deliver, copies}
-use Rattle.rules.specs.Handles.{inRole}
+use Rattle.rules.specs.Handles.{hasBit, inRole}
 use Rattle.rules.specs.Incoming.{heardWith, handled, stops, replied, replyEntry, followed, refusedMessage, monitors}
 use Rattle.rules.specs.Owed.{pending, roomOwed, owedRoom}
 use Rattle.rules.specs.State.{State, withWaits}
@@ -61,6 +62,10 @@ ends-then s t u c e a = record {
 reply-shown : (n : ℕ) (m : Message) → Replies n (replyEntry n m)
 reply-shown n m = shown-reply (replyEntry-shows n m) (split (isFeatureAbort (opcode (m .bytes))) (λ e. rw e (omega arith)) (λ e. rw e (omega arith)))
 
+-- with the OK bit
+reply-ok : (n : ℕ) (m : Message) → hasBit CEC-RX-STATUS-OK (replyEntry n m .«rx_status») ≡ true
+reply-ok n m = split (isFeatureAbort (opcode (m .bytes))) (λ e. rw e) (λ e. rw e)
+
 module _ (s : State) (r : Inv s) (m : Message) (k : ℕ) (bytes : List ℕ) where
   abbrev call : Call
   call = callMessage k bytes
@@ -89,7 +94,7 @@ module _ (s : State) (r : Inv s) (m : Message) (k : ℕ) (bytes : List ℕ) wher
     reply-ends = record {
       sent = [];
       over = wait ∷ [];
-      by = aborts replyOf (λ w. reply-shown (w .sequence) m);
+      by = aborts replyOf (λ w. reply-shown (w .sequence) m) (λ w q. clash (reply-ok (w .sequence) m) q);
       comes = λ h q. comes abortedResult replyOf h q s c (withWaits c rest) after [] (wait ∷ []) r a refl refl (owed-less h q);
       closes = λ h. refl;
       modes = a .modes;
