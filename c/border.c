@@ -1,6 +1,6 @@
 /*
- * What crosses the border between C and the proved code: numbers that are too wide, and every byte of answers, rows and new
- * adapters. Before a call the stack is filled with a pattern: bytes that come from there are printed, and valgrind sees them too.
+ * What crosses the border between C and the proved code: numbers that are too wide, times of 64 bits, and every byte of answers,
+ * rows and new adapters. Before a call the stack is filled with a pattern: bytes that come from there are printed, and valgrind sees them too.
  * c/run makes structs.inc, the structs of the Rattle sources in C, and fields.inc, which marks the bytes of their fields.
  */
 #include "clothbadger.h"
@@ -23,13 +23,17 @@ static const struct cec_request question = {
     .length = 2, .bytes = {0x40, CEC_MSG_GIVE_DEVICE_POWER_STATUS}, .reply = CEC_MSG_REPORT_POWER_STATUS};
 static const struct cec_request own_poll = {.length = 1, .bytes = {0x44}};
 static const struct cec_request no_message = {.length = 0};
+static const struct cec_message power_report = {.length = 3, .bytes = {0x04, CEC_MSG_REPORT_POWER_STATUS, 0x01}};
+
+/* When the first result and the messages after it came: no two bytes are the same. */
+static const uint64_t sent_at = 0x1122334455667788, heard_at = 0x2132435465768798;
 
 static struct cec_adapter adapter;
 
 /* Further down than any call reaches. */
 static OWN_FRAME void soil_stack(int pattern)
 {
-    volatile uint8_t stack[1 << 16];
+    volatile uint8_t stack[1 << 17];
     for (size_t i = 0; i < sizeof stack; i++)
         stack[i] = (uint8_t)pattern;
 }
@@ -133,8 +137,8 @@ static void configure(void)
 /* Device 0 reports its physical address, and its power status. */
 static void report(void)
 {
-    cec_received(&adapter, (struct cec_message){.length = 5, .bytes = {0x0F, CEC_MSG_REPORT_PHYSICAL_ADDR, 0x12, 0x34}});
-    cec_received(&adapter, (struct cec_message){.length = 3, .bytes = {0x04, CEC_MSG_REPORT_POWER_STATUS, 0x01}});
+    cec_received(&adapter, (struct cec_message){.length = 5, .bytes = {0x0F, CEC_MSG_REPORT_PHYSICAL_ADDR, 0x12, 0x34}}, heard_at);
+    cec_received(&adapter, power_report, heard_at);
 }
 
 /* Every answer that has more in it than an error, and every error that it can have. */
@@ -156,14 +160,15 @@ static void answers(void)
     SOILED(show_rows());
     SOILED(show_bus_start("bus start"));
     SOILED(show_bus_start("bus start, EBUSY"));
-    cec_bus_result(&adapter, CEC_TX_STATUS_OK | CEC_TX_STATUS_NACK, (struct cec_counts){.nack = 3});
+    cec_bus_result(&adapter, CEC_TX_STATUS_OK | CEC_TX_STATUS_NACK, (struct cec_counts){.nack = 3}, sent_at);
     SOILED(show_bus_start("bus start, EAGAIN"));
     report();
     SOILED(show_receive("receive, EBADF", 2));
     SOILED(show_receive("receive", 0));
     SOILED(show_receive("receive", 0));
     SOILED(show_receive("receive, EAGAIN", 0));
-    SOILED(show_receive("receive, a copy", 1));
+    SOILED(show_receive("receive, a copy of the result", 1));
+    SOILED(show_receive("receive, a copy of a message", 1));
     SOILED(show_lookup("lookup", 0));
     SOILED(show_lookup("lookup, EINVAL", 15));
     SOILED(show_route("route", 0x2000, 0x2100));
@@ -176,14 +181,9 @@ static void answers(void)
     SOILED(show_transmit("transmit, ENOTTY", 0, question));
 }
 
-/* Cut to 8 bits, most of these would be taken. */
-static void wide_numbers(void)
+/* Two handles with entries and waits, and a message on the wire. The last time is heard_at. */
+static void prepare(void)
 {
-    static const unsigned handles[] = {0x100, 0x101, 0x10000, UINT_MAX - 0xFF, UINT_MAX};
-    static const unsigned addresses[] = {0x100, 0x10E, 0x10F, UINT_MAX};
-    static const unsigned statuses[] = {0x101, 0x120, 0x10001, UINT_MAX};
-    struct cec_adapter before;
-
     cec_new(&adapter, true, true);
     cec_open(&adapter, true);
     cec_open(&adapter, true);
@@ -192,10 +192,21 @@ static void wide_numbers(void)
         cec_transmit(&adapter, 0, question);
         cec_transmit(&adapter, 1, question);
         cec_bus_start(&adapter);
-        cec_bus_result(&adapter, CEC_TX_STATUS_OK, no_counts);
+        cec_bus_result(&adapter, CEC_TX_STATUS_OK, no_counts, sent_at);
     }
     report();
     cec_bus_start(&adapter);
+}
+
+/* Cut to 8 bits, most of these would be taken. */
+static void wide_numbers(void)
+{
+    static const unsigned handles[] = {0x100, 0x101, 0x10000, UINT_MAX - 0xFF, UINT_MAX};
+    static const unsigned addresses[] = {0x100, 0x10E, 0x10F, UINT_MAX};
+    static const unsigned statuses[] = {0x101, 0x120, 0x10001, UINT_MAX};
+    struct cec_adapter before;
+
+    prepare();
     before = adapter;
 
     for (size_t i = 0; i < sizeof handles / sizeof *handles; i++) {
@@ -208,13 +219,37 @@ static void wide_numbers(void)
     for (size_t i = 0; i < sizeof addresses / sizeof *addresses; i++)
         printf("address %X: lookup %" PRIu32 "\n", addresses[i], cec_lookup(&adapter, addresses[i]).error);
     for (size_t i = 0; i < sizeof statuses / sizeof *statuses; i++)
-        printf("status %X: result %" PRIu32 "\n", statuses[i], cec_bus_result(&adapter, statuses[i], no_counts));
+        printf("status %X: result %" PRIu32 "\n", statuses[i], cec_bus_result(&adapter, statuses[i], no_counts, heard_at));
     printf("adapter: %s\n", same_fields(&adapter, &before) ? "as before" : "changed");
 
     printf("address 0: lookup %" PRIu32 "\n", cec_lookup(&adapter, 0).error);
-    printf("status 1: result %" PRIu32 "\n", cec_bus_result(&adapter, 1, no_counts));
+    printf("status 1: result %" PRIu32 "\n", cec_bus_result(&adapter, 1, no_counts, heard_at));
     printf("handle 0: receive %" PRIu32 ", ", cec_receive(&adapter, 0).error);
     printf("close %" PRIu32 "\n", cec_close(&adapter, 0));
+    printf("adapter: %s\n", same_fields(&adapter, &before) ? "as before" : "changed");
+}
+
+static void show_time(uint64_t ts)
+{
+    printf("time %" PRIX64 ": ", ts);
+    printf("result %" PRIu32 ", ", cec_bus_result(&adapter, CEC_TX_STATUS_OK, no_counts, ts));
+    printf("message %" PRIu32 "\n", cec_received(&adapter, power_report, ts));
+}
+
+/* Cut to 32 bits, the second and the third would not be below the last. */
+static void earlier_times(void)
+{
+    struct cec_adapter before;
+
+    prepare();
+    before = adapter;
+    show_time(0);
+    show_time(UINT32_MAX);
+    show_time(sent_at | UINT32_MAX);
+    show_time(heard_at - 1);
+    printf("adapter: %s\n", same_fields(&adapter, &before) ? "as before" : "changed");
+
+    show_time(heard_at);
     printf("adapter: %s\n", same_fields(&adapter, &before) ? "as before" : "changed");
 }
 
@@ -224,5 +259,6 @@ int main(void)
         new_adapter(i & 2, i & 1);
     answers();
     wide_numbers();
+    earlier_times();
     return 0;
 }

@@ -9,7 +9,7 @@ TX_STATUS_OK = 0x01
 
 
 class Adapter(Structure):
-    _fields_ = [("opaque", c_uint64 * (5920 // 8))]
+    _fields_ = [("opaque", c_uint64 * (8744 // 8))]
 
 
 class Message(Structure):
@@ -21,7 +21,10 @@ class Counts(Structure):
 
 
 class Entry(Structure):
-    _fields_ = [("sequence", c_uint32), ("tx_status", c_uint8), ("rx_status", c_uint8), ("message", Message), ("counts", Counts), ("reply", c_uint8)]
+    _fields_ = [
+        ("sequence", c_uint32), ("tx_status", c_uint8), ("rx_status", c_uint8), ("message", Message), ("counts", Counts), ("reply", c_uint8),
+        ("tx_ts", c_uint64), ("rx_ts", c_uint64),
+    ]
 
 
 class Request(Structure):
@@ -60,9 +63,9 @@ open_ = declare("adapter_open", after(("handle", c_uint8)), Adapter, c_bool)
 configure = declare("adapter_configure", after(), Adapter, Settings)
 transmit = declare("adapter_transmit", after(("sequence", c_uint32), ("tx_status", c_uint8)), Adapter, c_uint8, Request)
 bus_start = declare("adapter_bus_start", after(("message", Message)), Adapter)
-bus_result = declare("adapter_bus_result", after(), Adapter, c_uint8, Counts)
+bus_result = declare("adapter_bus_result", after(), Adapter, c_uint8, Counts, c_uint64)
 receive = declare("adapter_receive", after(("entry", Entry)), Adapter, c_uint8)
-received = declare("adapter_received", after(), Adapter, Message)
+received = declare("adapter_received", after(), Adapter, Message, c_uint64)
 active_address = declare("adapter_active_address", c_uint16, Adapter)
 route = declare("route", Route, c_uint16, c_uint16)
 
@@ -88,14 +91,14 @@ chart = call(open_, False).handle
 call(configure, Settings(0x1000, 0x0010, 5, 4, 0x00A0B0, 3, (c_uint8 * 14)(*b"TUG")))
 for name, handle, device in (("camera", camera, 0), ("chart", chart, 5)):
     print(f"{name}: handle {handle}, transmit to {device}, number {ask(handle, device).sequence}")
-for _ in range(2):
+for ts in (3_000_000_000, 7_000_000_000):
     print("wire:", call(bus_start).message.bytes[0] % 16, "status", TX_STATUS_OK)
-    call(bus_result, TX_STATUS_OK, Counts())
+    call(bus_result, TX_STATUS_OK, Counts(), ts)
 for name, handle in (("chart", chart), ("camera", camera)):
     answer = call(receive, handle)
-    print(f"{name}: errno {answer.error}, number {answer.entry.sequence}, tx_status {answer.entry.tx_status}")
+    print(f"{name}: errno {answer.error}, number {answer.entry.sequence}, tx_status {answer.entry.tx_status}, tx_ts {answer.entry.tx_ts}")
     print(f"{name}: errno {call(receive, handle).error}")
 print(f"picture: {active_address(adapter):04x}")
-call(received, Message(4, (c_uint8 * 16)(0x5F, ACTIVE_SOURCE, 0x21, 0x00)))
+call(received, Message(4, (c_uint8 * 16)(0x5F, ACTIVE_SOURCE, 0x21, 0x00)), 7_000_000_000)
 picture = active_address(adapter)
 print(f"picture: {picture:04x}, through port {route(0x0000, picture).port} of 0000 and port {route(0x2000, picture).port} of 2000")

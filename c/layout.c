@@ -85,8 +85,11 @@ SAME(cec_entry, entry_Entry, rx_status);
 SAME_STRUCT(cec_entry, entry_Entry, message);
 SAME_STRUCT(cec_entry, entry_Entry, counts);
 SAME(cec_entry, entry_Entry, reply);
+SAME(cec_entry, entry_Entry, tx_ts);
+SAME(cec_entry, entry_Entry, rx_ts);
 NO_PADDING(cec_entry, BYTES(cec_entry, sequence) + BYTES(cec_entry, tx_status) + BYTES(cec_entry, rx_status) + BYTES(cec_entry, message)
-                          + BYTES(cec_entry, counts) + BYTES(cec_entry, reply));
+                          + BYTES(cec_entry, counts) + BYTES(cec_entry, reply) + BYTES(cec_entry, reserved)
+                          + BYTES(cec_entry, tx_ts) + BYTES(cec_entry, rx_ts));
 
 SIZES(cec_request, request_Request);
 SAME(cec_request, request_Request, length);
@@ -153,7 +156,8 @@ SIZES(cec_after_receive, adapter_Received);
 SAME_STRUCT(cec_after_receive, adapter_Received, adapter);
 NUMBERS(cec_after_receive, answer.error, adapter_Received, error);
 OFFSETS(cec_after_receive, answer.entry, adapter_Received, entry);
-NO_PADDING(cec_receive_answer, BYTES(cec_receive_answer, error) + BYTES(cec_receive_answer, entry));
+NO_PADDING(cec_receive_answer,
+           BYTES(cec_receive_answer, error) + BYTES(cec_receive_answer, reserved) + BYTES(cec_receive_answer, entry));
 
 SIZES(cec_after_bus_start, adapter_Started);
 SAME_STRUCT(cec_after_bus_start, adapter_Started, adapter);

@@ -1,6 +1,6 @@
 # Turns the exported functions of a Rattle source into PROTOTYPE(name, result, parameters), with the types of clothbadger.h. A slice is a pointer and a length.
 BEGIN {
-    split("u8 uint8_t u16 uint16_t u32 uint32_t usize size_t bool bool", plain, " ")
+    split("u8 uint8_t u16 uint16_t u32 uint32_t u64 uint64_t usize size_t bool bool", plain, " ")
     for (i = 1; i in plain; i += 2) c_type[plain[i]] = plain[i + 1]
     split("Adapter adapter Message message Counts counts Entry entry Request request Settings settings Row row Noted lookup_answer Route route_answer " \
           "Done after Opened after_open Transmitted after_transmit Received after_receive Started after_bus_start", struct, " ")

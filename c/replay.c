@@ -11,7 +11,7 @@
 enum { OPEN = 1, CLOSE, MODE, TRANSMIT, RECEIVE, BUS_START, BUS_RESULT, TIME, MESSAGE, CONFIGURE, UNCONFIGURE };
 
 /* The bytes after each kind. */
-static const size_t body_length[] = {0, 1, 1, 5, 27, 1, 0, 5, 4, 17, 27, 0};
+static const size_t body_length[] = {0, 1, 1, 5, 27, 1, 0, 13, 4, 25, 27, 0};
 
 /* A number of some bytes, low byte first. */
 static uint32_t number(const uint8_t *bytes, int count)
@@ -20,6 +20,12 @@ static uint32_t number(const uint8_t *bytes, int count)
     while (count-- > 0)
         n = n << 8 | bytes[count];
     return n;
+}
+
+/* A time in nanoseconds, of eight bytes. */
+static uint64_t time_at(const uint8_t *bytes)
+{
+    return (uint64_t)number(bytes + 4, 4) << 32 | number(bytes, 4);
 }
 
 static uint32_t transmit(struct cec_adapter *adapter, const uint8_t *body)
@@ -33,14 +39,14 @@ static uint32_t transmit(struct cec_adapter *adapter, const uint8_t *body)
 static uint32_t bus_result(struct cec_adapter *adapter, const uint8_t *body)
 {
     struct cec_counts counts = {.arb_lost = body[1], .nack = body[2], .low_drive = body[3], .error = body[4]};
-    return cec_bus_result(adapter, body[0], counts);
+    return cec_bus_result(adapter, body[0], counts, time_at(body + 5));
 }
 
 static uint32_t message(struct cec_adapter *adapter, const uint8_t *body)
 {
     struct cec_message message = {.length = body[0]};
     memcpy(message.bytes, body + 1, sizeof message.bytes);
-    return cec_received(adapter, message);
+    return cec_received(adapter, message, time_at(body + 17));
 }
 
 static uint32_t configure(struct cec_adapter *adapter, const uint8_t *body)

@@ -10,7 +10,7 @@ static void play_round(struct cec_adapter *adapter, struct cec_request poll)
 {
     cec_transmit(adapter, 0, poll);
     cec_bus_start(adapter);
-    cec_bus_result(adapter, CEC_TX_STATUS_OK, (struct cec_counts){0});
+    cec_bus_result(adapter, CEC_TX_STATUS_OK, (struct cec_counts){0}, 0);
     cec_receive(adapter, 0);
 }
 

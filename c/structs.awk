@@ -1,7 +1,7 @@
 # Turns the #[repr(C)] structs of Rattle sources into C, in the order in which they come: NAME of crate C becomes `struct C_NAME`.
 # Fields keep their names, but for `errno`, which is a macro in C.
 BEGIN {
-    c_type["u8"] = "uint8_t"; c_type["u16"] = "uint16_t"; c_type["u32"] = "uint32_t"; c_type["usize"] = "size_t"; c_type["bool"] = "bool"
+    c_type["u8"] = "uint8_t"; c_type["u16"] = "uint16_t"; c_type["u32"] = "uint32_t"; c_type["u64"] = "uint64_t"; c_type["usize"] = "size_t"; c_type["bool"] = "bool"
 }
 /^#\[repr\(C\)\]$/ { marked = 1; next }
 marked && /^pub struct / {

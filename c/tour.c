@@ -20,6 +20,9 @@ static const struct cec_counts no_counts;
 
 static struct cec_adapter adapter;
 
+/* The driver's clock, in nanoseconds: it moves where pass_time() moves it. */
+static uint64_t now;
+
 static const char *program(uint8_t handle)
 {
     static const char *const names[] = {"camera", "chart", "monitor", "controller"};
@@ -75,13 +78,13 @@ static void send_next(uint8_t status, struct cec_counts counts)
 {
     struct cec_bus_start_answer start = cec_bus_start(&adapter);
     printf("wire: start, errno %" PRIu32 ", to %u", start.error, start.message.bytes[0] & 15);
-    printf("; result, errno %" PRIu32 ", status %u\n", cec_bus_result(&adapter, status, counts), status);
+    printf("; result, errno %" PRIu32 ", status %u\n", cec_bus_result(&adapter, status, counts, now), status);
 }
 
 /* A message of three bytes comes from the wire. */
 static void come(uint8_t from, uint8_t to, uint8_t opcode, uint8_t third)
 {
-    cec_received(&adapter, (struct cec_message){.length = 3, .bytes = {header(from, to), opcode, third}});
+    cec_received(&adapter, (struct cec_message){.length = 3, .bytes = {header(from, to), opcode, third}}, now);
 }
 
 static void show_message(uint8_t from, uint8_t opcode)
@@ -121,6 +124,7 @@ static void pass_time(uint32_t ms)
 {
     printf("clock: milliseconds %" PRIu32 "\n", ms);
     cec_time_passed(&adapter, ms);
+    now += (uint64_t)ms * 1000000;
 }
 
 /* Both ask, and both messages go out. */
@@ -180,7 +184,7 @@ static void look_up(uint8_t address)
 static void report(void)
 {
     uint8_t to_all = header(AMPLIFIER, CEC_LOG_ADDR_BROADCAST);
-    cec_received(&adapter, (struct cec_message){.length = 5, .bytes = {to_all, CEC_MSG_REPORT_PHYSICAL_ADDR, 0x20}});
+    cec_received(&adapter, (struct cec_message){.length = 5, .bytes = {to_all, CEC_MSG_REPORT_PHYSICAL_ADDR, 0x20}}, now);
     look_up(AMPLIFIER);
     look_up(CEC_LOG_ADDR_BROADCAST);
 }
@@ -219,13 +223,13 @@ static void picture(void)
     uint8_t from_display = header(DISPLAY, CEC_LOG_ADDR_BROADCAST);
     show_picture();
     show_message(AMPLIFIER, CEC_MSG_ROUTING_CHANGE);
-    cec_received(&adapter, (struct cec_message){.length = 6, .bytes = {from_amplifier, CEC_MSG_ROUTING_CHANGE, 0x10, 0, 0x21}});
+    cec_received(&adapter, (struct cec_message){.length = 6, .bytes = {from_amplifier, CEC_MSG_ROUTING_CHANGE, 0x10, 0, 0x21}}, now);
     show_picture();
     show_way(0x0000, 0x2100);
     show_way(0x2000, 0x2100);
     show_way(0x1000, 0x2100);
     show_message(DISPLAY, CEC_MSG_SET_STREAM_PATH);
-    cec_received(&adapter, (struct cec_message){.length = 4, .bytes = {from_display, CEC_MSG_SET_STREAM_PATH, 0x10}});
+    cec_received(&adapter, (struct cec_message){.length = 4, .bytes = {from_display, CEC_MSG_SET_STREAM_PATH, 0x10}}, now);
     show_picture();
 }
 
@@ -261,7 +265,7 @@ static void watch(void)
 static void ask_version(void)
 {
     show_message(DISPLAY, CEC_MSG_GET_CEC_VERSION);
-    cec_received(&adapter, (struct cec_message){.length = 2, .bytes = {header(DISPLAY, BOX), CEC_MSG_GET_CEC_VERSION}});
+    cec_received(&adapter, (struct cec_message){.length = 2, .bytes = {header(DISPLAY, BOX), CEC_MSG_GET_CEC_VERSION}}, now);
 }
 
 /* The controller tells it. */

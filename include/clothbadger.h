@@ -10,7 +10,7 @@
  *  - one call at a time on an adapter: there is no lock in it.
  * Every other value of an argument is tested by the calls. The forms by pointer take a handle, a logical address and a status
  * as unsigned, and refuse all that is over 255. C itself cuts what is wider than the argument or field that it is given for, before
- * a call can see it: 2^32 as a handle, a mode or a time is 0, and so is 256 in a field of 8 bits, or as a handle of a proved
+ * a call can see it: 2^32 as a handle, a mode or milliseconds is 0, and so is 256 in a field of 8 bits, or as a handle of a proved
  * function. -Wconversion shows where.
  *
  * An error is a number of Linux's errno.h, 0 for success. A call that is refused changes nothing, and
@@ -115,7 +115,7 @@ extern "C" {
  * An adapter, opaque: copy it, but change it by the calls alone. The messages of all programs are in it, read ones too: show it
  * to none of them.
  */
-#define CLOTHBADGER_ADAPTER_SIZE 5920
+#define CLOTHBADGER_ADAPTER_SIZE 8744
 
 struct cec_adapter {
     uint64_t opaque[CLOTHBADGER_ADAPTER_SIZE / 8];
@@ -129,12 +129,12 @@ CLOTHBADGER_STATIC_ASSERT(CLOTHBADGER_ALIGNOF(struct cec_adapter) == 8, "alignme
  * the physical address, the noted ones and the active one (invalid).
  */
 #define CLOTHBADGER_QUEUE_SLOTS       32
-#define CLOTHBADGER_QUEUE_OWNER(slot) (280 + 32 * (slot))
-#define CLOTHBADGER_WIRE_OWNER        240
-#define CLOTHBADGER_CAPABILITIES      64
-#define CLOTHBADGER_PHYSICAL_ADDRESS  72
-#define CLOTHBADGER_NOTED             104
-#define CLOTHBADGER_ACTIVE_ADDRESS    134
+#define CLOTHBADGER_QUEUE_OWNER(slot) (288 + 32 * (slot))
+#define CLOTHBADGER_WIRE_OWNER        248
+#define CLOTHBADGER_CAPABILITIES      72
+#define CLOTHBADGER_PHYSICAL_ADDRESS  80
+#define CLOTHBADGER_NOTED             112
+#define CLOTHBADGER_ACTIVE_ADDRESS    142
 
 /*
  * A message: the first byte is initiator and destination, the second the opcode.
@@ -158,6 +158,9 @@ struct cec_counts {
  * (rx_status not 0: reply, Feature Abort, timeout or abort). With sequence 0: a copy for a monitor or a follower.
  * At the end of a wait, reply is the opcode that came, CEC_MSG_FEATURE_ABORT (0) for a Feature Abort, or, with a timeout or an
  * abort, the opcode that was wanted. In results and copies it is 0.
+ * tx_ts is the time that cec_bus_result() gave of the transmit, rx_ts that which cec_received() gave of the message, in nanoseconds.
+ * Results and their copies have tx_ts alone, copies of messages rx_ts alone, replies and Feature Aborts both, timeouts and aborts of
+ * a wait tx_ts alone. The other is 0, and both are in the result of a transmit that cec_unconfigure() ended.
  */
 struct cec_entry {
     uint32_t sequence;
@@ -166,6 +169,9 @@ struct cec_entry {
     struct cec_message message;
     struct cec_counts counts;
     uint8_t reply;
+    uint8_t reserved[4];
+    uint64_t tx_ts;
+    uint64_t rx_ts;
 };
 
 /*
@@ -211,8 +217,8 @@ struct cec_row {
 };
 
 /*
- * The answers of the calls that give more than an error. What would be padding is a field, reserved, here and in rows,
- * so that C copies it. It is 0 in what the forms by pointer give; the proved functions leave there what was in memory before.
+ * The answers of the calls that give more than an error. What would be padding is a field, reserved, here, in entries and in
+ * rows, so that C copies it. It is 0 in what the forms by pointer give; the proved functions leave there what was in memory before.
  */
 struct cec_open_answer {
     uint32_t error;
@@ -229,6 +235,7 @@ struct cec_transmit_answer {
 
 struct cec_receive_answer {
     uint32_t error;
+    uint8_t reserved[4];
     struct cec_entry entry;
 };
 
@@ -294,8 +301,8 @@ struct cec_after cec_adapter_set_mode(struct cec_adapter adapter, uint8_t handle
 struct cec_after_transmit cec_adapter_transmit(struct cec_adapter adapter, uint8_t handle, struct cec_request request);
 struct cec_after_receive cec_adapter_receive(struct cec_adapter adapter, uint8_t handle);
 struct cec_after_bus_start cec_adapter_bus_start(struct cec_adapter adapter);
-struct cec_after cec_adapter_bus_result(struct cec_adapter adapter, uint8_t status, struct cec_counts counts);
-struct cec_after cec_adapter_received(struct cec_adapter adapter, struct cec_message message);
+struct cec_after cec_adapter_bus_result(struct cec_adapter adapter, uint8_t status, struct cec_counts counts, uint64_t ts);
+struct cec_after cec_adapter_received(struct cec_adapter adapter, struct cec_message message, uint64_t ts);
 struct cec_after cec_adapter_time_passed(struct cec_adapter adapter, uint32_t ms);
 struct cec_after cec_adapter_configure(struct cec_adapter adapter, struct cec_settings settings);
 struct cec_after cec_adapter_unconfigure(struct cec_adapter adapter);
@@ -418,6 +425,8 @@ static inline struct cec_receive_answer cec_receive(struct cec_adapter *adapter,
     answer.entry.message = after.answer.entry.message;
     answer.entry.counts = after.answer.entry.counts;
     answer.entry.reply = after.answer.entry.reply;
+    answer.entry.tx_ts = after.answer.entry.tx_ts;
+    answer.entry.rx_ts = after.answer.entry.rx_ts;
     return answer;
 }
 
@@ -435,19 +444,24 @@ static inline struct cec_bus_start_answer cec_bus_start(struct cec_adapter *adap
 
 /*
  * The driver says how the message on the wire ended: exactly one of CEC_TX_STATUS_OK, _MAX_RETRIES, _ABORTED and _TIMEOUT,
- * others beside it, and how often each thing went wrong. EINVAL: any other status, or nothing on the wire.
+ * others beside it, how often each thing went wrong, and the time of the last byte in nanoseconds. EINVAL: any other status, nothing
+ * on the wire, or a time below the last that this call or cec_received() accepted, which is 0 at first and kept by cec_unconfigure().
+ * An equal one is fine.
  */
-static inline uint32_t cec_bus_result(struct cec_adapter *adapter, unsigned status, struct cec_counts counts)
+static inline uint32_t cec_bus_result(struct cec_adapter *adapter, unsigned status, struct cec_counts counts, uint64_t ts)
 {
-    struct cec_after after = cec_adapter_bus_result(*adapter, cec_narrow(status), counts);
+    struct cec_after after = cec_adapter_bus_result(*adapter, cec_narrow(status), counts, ts);
     *adapter = after.adapter;
     return after.error;
 }
 
-/* The driver hands in a message that came from the wire. EINVAL: its length is not 1 to 16. */
-static inline uint32_t cec_received(struct cec_adapter *adapter, struct cec_message message)
+/*
+ * The driver hands in a message that came from the wire, and the time of its last byte in nanoseconds. EINVAL: its length is not
+ * 1 to 16, or the time is below the last accepted, as for cec_bus_result().
+ */
+static inline uint32_t cec_received(struct cec_adapter *adapter, struct cec_message message, uint64_t ts)
 {
-    struct cec_after after = cec_adapter_received(*adapter, message);
+    struct cec_after after = cec_adapter_received(*adapter, message, ts);
     *adapter = after.adapter;
     return after.error;
 }

@@ -147,11 +147,12 @@ impl Adapter {
         }
     }
 
-    pub fn bus_result(self, status: u8, counts: Counts) -> Done
-        ensures { λ r. ⌜ doneOf r ≡ step (stateOf self) (callBusResult status counts) ⌝ }
+    // The transmission on the wire ended, at a time in nanoseconds.
+    pub fn bus_result(self, status: u8, counts: Counts, ts: u64) -> Done
+        ensures { λ r. ⌜ doneOf r ≡ step (stateOf self) (callBusResult status counts ts) ⌝ }
         ensures { λ r. ⌜ (r .errno ≢ 0 → r ≡ refusedCall self (r .errno)) ⌝ }
     {
-        let ended = bus_result::bus_result(self.parts, status, counts);
+        let ended = bus_result::bus_result(self.parts, status, counts, ts);
         let parts = ended.parts;
         Done {
             adapter: Adapter { parts: parts },
@@ -159,12 +160,12 @@ impl Adapter {
         }
     }
 
-    // A message came from the wire.
-    pub fn received(self, length: u8, bytes: [u8; 16]) -> Done
-        ensures { λ r. ⌜ doneOf r ≡ step (stateOf self) (callMessage length bytes) ⌝ }
+    // A message came from the wire, at a time in nanoseconds.
+    pub fn received(self, length: u8, bytes: [u8; 16], ts: u64) -> Done
+        ensures { λ r. ⌜ doneOf r ≡ step (stateOf self) (callMessage length bytes ts) ⌝ }
         ensures { λ r. ⌜ (r .errno ≢ 0 → r ≡ refusedCall self (r .errno)) ⌝ }
     {
-        let heard = incoming::message(self.parts, length, bytes);
+        let heard = incoming::message(self.parts, length, bytes, ts);
         let parts = heard.parts;
         Done {
             adapter: Adapter { parts: parts },

@@ -57,7 +57,7 @@ offsets (tyNamed ν) = []
 abbrev HasLayout : (s : Record) → Ty → (s .D → Values (s .parts)) → List ℕ → ℕ → ℕ → Type 0
 HasLayout s τ fields at bytes aligned = ((d : s .D) → s .as-values d ≡ fields d) × ((offsets τ ≡ at) × ((size τ ≡ bytes) × (align τ ≡ aligned)))
 
-adapter : (size Adapter′.mir ≡ 5920) × (align Adapter′.mir ≡ 8)
+adapter : (size Adapter′.mir ≡ 8744) × (align Adapter′.mir ≡ 8)
 adapter = (refl, refl)
 
 message : HasLayout Message.struct Message′.mir (λ d. (d .length, (d .bytes, tt))) (0 ∷ 1 ∷ []) 17 1
@@ -66,7 +66,7 @@ message = (λ d. refl, (refl, (refl, refl)))
 counts : HasLayout Counts.struct Counts′.mir (λ d. (d .«arb_lost», (d .nack, (d .«low_drive», (d .error, tt))))) (0 ∷ 1 ∷ 2 ∷ 3 ∷ []) 4 1
 counts = (λ d. refl, (refl, (refl, refl)))
 
-entry : HasLayout Entry.struct Entry′.mir (λ d. (d .sequence, (d .«tx_status», (d .«rx_status», (d .message, (d .counts, (d .reply, tt))))))) (0 ∷ 4 ∷ 5 ∷ 6 ∷ 23 ∷ 27 ∷ []) 28 4
+entry : HasLayout Entry.struct Entry′.mir (λ d. (d .sequence, (d .«tx_status», (d .«rx_status», (d .message, (d .counts, (d .reply, (d .«tx_ts», (d .«rx_ts», tt))))))))) (0 ∷ 4 ∷ 5 ∷ 6 ∷ 23 ∷ 27 ∷ 32 ∷ 40 ∷ []) 48 8
 entry = (λ d. refl, (refl, (refl, refl)))
 
 request : HasLayout Request.struct Request′.mir (λ d. (d .length, (d .bytes, (d .reply, (d .timeout, (d .flags, tt)))))) (0 ∷ 1 ∷ 17 ∷ 20 ∷ 24 ∷ []) 28 4
@@ -86,17 +86,17 @@ noted = (λ d. refl, (refl, (refl, refl)))
 route : HasLayout Route.struct Route′.mir (λ d. (d .errno, (d .ancestor, (d .«on_path», (d .port, tt))))) (0 ∷ 4 ∷ 6 ∷ 7 ∷ []) 8 4
 route = (λ d. refl, (refl, (refl, refl)))
 
-done : HasLayout Done.struct Done′.mir (λ d. (d .adapter, (d .errno, tt))) (0 ∷ 5920 ∷ []) 5928 8
+done : HasLayout Done.struct Done′.mir (λ d. (d .adapter, (d .errno, tt))) (0 ∷ 8744 ∷ []) 8752 8
 done = (λ d. refl, (refl, (refl, refl)))
 
-opened : HasLayout Opened.struct Opened′.mir (λ d. (d .adapter, (d .errno, (d .handle, tt)))) (0 ∷ 5920 ∷ 5924 ∷ []) 5928 8
+opened : HasLayout Opened.struct Opened′.mir (λ d. (d .adapter, (d .errno, (d .handle, tt)))) (0 ∷ 8744 ∷ 8748 ∷ []) 8752 8
 opened = (λ d. refl, (refl, (refl, refl)))
 
-transmitted : HasLayout Transmitted.struct Transmitted′.mir (λ d. (d .adapter, (d .errno, (d .sequence, (d .«tx_status», tt))))) (0 ∷ 5920 ∷ 5924 ∷ 5928 ∷ []) 5936 8
+transmitted : HasLayout Transmitted.struct Transmitted′.mir (λ d. (d .adapter, (d .errno, (d .sequence, (d .«tx_status», tt))))) (0 ∷ 8744 ∷ 8748 ∷ 8752 ∷ []) 8760 8
 transmitted = (λ d. refl, (refl, (refl, refl)))
 
-received : HasLayout Received.struct Received′.mir (λ d. (d .adapter, (d .errno, (d .entry, tt)))) (0 ∷ 5920 ∷ 5924 ∷ []) 5952 8
+received : HasLayout Received.struct Received′.mir (λ d. (d .adapter, (d .errno, (d .entry, tt)))) (0 ∷ 8744 ∷ 8752 ∷ []) 8800 8
 received = (λ d. refl, (refl, (refl, refl)))
 
-started : HasLayout Started.struct Started′.mir (λ d. (d .adapter, (d .errno, (d .message, tt)))) (0 ∷ 5920 ∷ 5924 ∷ []) 5944 8
+started : HasLayout Started.struct Started′.mir (λ d. (d .adapter, (d .errno, (d .message, tt)))) (0 ∷ 8744 ∷ 8748 ∷ []) 8768 8
 started = (λ d. refl, (refl, (refl, refl)))

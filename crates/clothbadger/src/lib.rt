@@ -38,7 +38,7 @@ pub extern "C" fn cec_adapter_new(can_transmit: bool, can_monitor_all: bool) -> 
 pub extern "C" fn cec_adapter_size() -> usize
     ensures { λ r. ⌜ r ≡ size adapter-laws.mir ⌝ }
 {
-    5920
+    8744
 }
 
 #[no_mangle]
@@ -93,23 +93,29 @@ pub extern "C" fn cec_adapter_bus_start(adapter: Adapter) -> Started
     adapter.bus_start()
 }
 
+// The transmission on the wire ended, at a time in nanoseconds.
 #[no_mangle]
-pub extern "C" fn cec_adapter_bus_result(adapter: Adapter, status: u8, counts: Counts) -> Done
-    ensures { λ r. ⌜ doneOf r ≡ step (stateOf adapter) (callBusResult status counts) ⌝ }
+pub extern "C" fn cec_adapter_bus_result(
+    adapter: Adapter,
+    status: u8,
+    counts: Counts,
+    ts: u64,
+) -> Done
+    ensures { λ r. ⌜ doneOf r ≡ step (stateOf adapter) (callBusResult status counts ts) ⌝ }
     ensures { λ r. ⌜ (r .errno ≢ 0 → r ≡ refusedCall adapter (r .errno)) ⌝ }
 {
-    adapter.bus_result(status, counts)
+    adapter.bus_result(status, counts, ts)
 }
 
-// A message came from the wire.
+// A message came from the wire, at a time in nanoseconds.
 #[no_mangle]
-pub extern "C" fn cec_adapter_received(adapter: Adapter, message: Message) -> Done
-    ensures { λ r. ⌜ doneOf r ≡ step (stateOf adapter) (callMessage (message .length) (message .bytes)) ⌝ }
+pub extern "C" fn cec_adapter_received(adapter: Adapter, message: Message, ts: u64) -> Done
+    ensures { λ r. ⌜ doneOf r ≡ step (stateOf adapter) (callMessage (message .length) (message .bytes) ts) ⌝ }
     ensures { λ r. ⌜ (r .errno ≢ 0 → r ≡ refusedCall adapter (r .errno)) ⌝ }
 {
     let length = message.length();
     let bytes = message.bytes();
-    adapter.received(length, bytes)
+    adapter.received(length, bytes, ts)
 }
 
 // Milliseconds passed.

@@ -68,28 +68,35 @@ fn is_copied(kind: u8, handle: Handle) -> bool
     handle.is_open & gets_copies(kind, handle.mode)
 }
 
-// Copies for all handles of a kind, ascending: one that has no room left loses its copy.
-pub fn copies(mut parts: Parts, kind: u8, entry: Entry) -> Parts
+// Copies for all handles of a kind, ascending: one that has no room left loses its copy. What changes lies beside the parts meanwhile, so that these are not copied as a whole.
+pub fn copies(parts: Parts, kind: u8, entry: Entry) -> Parts
     ensures { λ r. ⌜ stateOf r ≡ copies (inRole (getsCopies kind)) entry (stateOf parts) ⌝ }
     ensures { λ r. ⌜ (kind ≡ NOBODY → r ≡ parts) ⌝ }
 {
+    let mut entries = parts.entries;
+    let mut counts = parts.counts;
+    let mut handles = parts.handles;
     let mut handle: u8 = 0;
     while handle < 8 {
-        let own = parts.handles.at(handle);
+        let own = handles.at(handle);
         if is_copied(kind, own) {
-            let n = count_at(parts.counts, handle);
+            let n = count_at(counts, handle);
             let h = handle as usize;
             let owed = traffic::owed(parts.queue, parts.wire, parts.waits, handle);
             if n + owed.room == 16 {
-                parts.handles = parts.handles.with(handle, loses(own));
+                handles = handles.with(handle, loses(own));
             } else if (h < 8) & (n < 16) {
-                parts.entries[16 * h + n] = entry;
-                parts.counts[h] = n + 1;
+                entries[16 * h + n] = entry;
+                counts[h] = n + 1;
             }
         }
         handle += 1;
     }
-    parts
+    let mut after = parts;
+    after.entries = entries;
+    after.counts = counts;
+    after.handles = handles;
+    after
 }
 
 // Whether there is a handle of a kind.

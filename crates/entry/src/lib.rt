@@ -16,6 +16,7 @@ pub struct Counts {
     pub error: u8,
 }
 
+// The times are in nanoseconds: when the message that was sent had gone out, and when the one that is shown had come.
 #[repr(C)]
 pub struct Entry {
     pub sequence: u32,
@@ -24,6 +25,8 @@ pub struct Entry {
     pub message: Message,
     pub counts: Counts,
     pub reply: u8,
+    pub tx_ts: u64,
+    pub rx_ts: u64,
 }
 
 impl Counts {
@@ -41,8 +44,8 @@ impl Counts {
 
 impl Entry {
     // The result of a transmit, for its owner.
-    pub fn result(sequence: u32, status: u8, counts: Counts, sent: Message) -> Entry
-        ensures { λ r. ⌜ r ≡ result sequence status counts sent ⌝ }
+    pub fn result(sequence: u32, status: u8, counts: Counts, sent: Message, tx_ts: u64) -> Entry
+        ensures { λ r. ⌜ r ≡ result sequence status counts sent «tx_ts» ⌝ }
     {
         Entry {
             sequence: sequence,
@@ -51,19 +54,28 @@ impl Entry {
             message: sent,
             counts: counts,
             reply: 0,
+            tx_ts: tx_ts,
+            rx_ts: 0,
         }
     }
 
     // The copy of a result, for a monitor.
-    pub fn result_copy(status: u8, counts: Counts, sent: Message) -> Entry
-        ensures { λ r. ⌜ r ≡ resultCopy status counts sent ⌝ }
+    pub fn result_copy(status: u8, counts: Counts, sent: Message, tx_ts: u64) -> Entry
+        ensures { λ r. ⌜ r ≡ resultCopy status counts sent «tx_ts» ⌝ }
     {
-        Entry::result(0, status, counts, sent)
+        Entry::result(0, status, counts, sent, tx_ts)
     }
 
-    // A receive status, a message and the opcode of a reply alone.
-    fn rx_entry(sequence: u32, status: u8, message: Message, reply: u8) -> Entry
-        ensures { λ r. ⌜ r ≡ rxEntry sequence status message reply ⌝ }
+    // A receive status, a message, the opcode of a reply and the times alone.
+    fn rx_entry(
+        sequence: u32,
+        status: u8,
+        message: Message,
+        reply: u8,
+        tx_ts: u64,
+        rx_ts: u64,
+    ) -> Entry
+        ensures { λ r. ⌜ r ≡ rxEntry sequence status message reply «tx_ts» «rx_ts» ⌝ }
     {
         Entry {
             sequence: sequence,
@@ -72,56 +84,60 @@ impl Entry {
             message: message,
             counts: Counts::none(),
             reply: reply,
+            tx_ts: tx_ts,
+            rx_ts: rx_ts,
         }
     }
 
     // A message that came as the reply, with its opcode.
-    fn matched(sequence: u32, status: u8, came: Message) -> Entry
-        ensures { λ r. ⌜ r ≡ matched sequence status came ⌝ }
+    fn matched(sequence: u32, status: u8, came: Message, tx_ts: u64, rx_ts: u64) -> Entry
+        ensures { λ r. ⌜ r ≡ matched sequence status came «tx_ts» «rx_ts» ⌝ }
     {
-        Entry::rx_entry(sequence, status, came, came.opcode())
+        Entry::rx_entry(sequence, status, came, came.opcode(), tx_ts, rx_ts)
     }
 
-    pub fn reply(sequence: u32, came: Message) -> Entry
-        ensures { λ r. ⌜ r ≡ reply sequence came ⌝ }
+    pub fn reply(sequence: u32, came: Message, tx_ts: u64, rx_ts: u64) -> Entry
+        ensures { λ r. ⌜ r ≡ reply sequence came «tx_ts» «rx_ts» ⌝ }
     {
-        Entry::matched(sequence, CEC_RX_STATUS_OK, came)
+        Entry::matched(sequence, CEC_RX_STATUS_OK, came, tx_ts, rx_ts)
     }
 
-    pub fn feature_abort_reply(sequence: u32, came: Message) -> Entry
-        ensures { λ r. ⌜ r ≡ featureAbortReply sequence came ⌝ }
+    pub fn feature_abort_reply(sequence: u32, came: Message, tx_ts: u64, rx_ts: u64) -> Entry
+        ensures { λ r. ⌜ r ≡ featureAbortReply sequence came «tx_ts» «rx_ts» ⌝ }
     {
         Entry::matched(
             sequence,
             CEC_RX_STATUS_OK + CEC_RX_STATUS_FEATURE_ABORT,
             came,
+            tx_ts,
+            rx_ts,
         )
     }
 
     // No reply came in time: the entry shows the opcode that was wanted.
-    pub fn timed_out(sequence: u32, sent: Message, wanted: u8) -> Entry
-        ensures { λ r. ⌜ r ≡ timedOut sequence sent wanted ⌝ }
+    pub fn timed_out(sequence: u32, sent: Message, wanted: u8, tx_ts: u64) -> Entry
+        ensures { λ r. ⌜ r ≡ timedOut sequence sent wanted «tx_ts» ⌝ }
     {
-        Entry::rx_entry(sequence, CEC_RX_STATUS_TIMEOUT, sent, wanted)
+        Entry::rx_entry(sequence, CEC_RX_STATUS_TIMEOUT, sent, wanted, tx_ts, 0)
     }
 
     // The wait for a reply was given up.
-    pub fn aborted(sequence: u32, sent: Message, wanted: u8) -> Entry
-        ensures { λ r. ⌜ r ≡ aborted sequence sent wanted ⌝ }
+    pub fn aborted(sequence: u32, sent: Message, wanted: u8, tx_ts: u64) -> Entry
+        ensures { λ r. ⌜ r ≡ aborted sequence sent wanted «tx_ts» ⌝ }
     {
-        Entry::rx_entry(sequence, CEC_RX_STATUS_ABORTED, sent, wanted)
+        Entry::rx_entry(sequence, CEC_RX_STATUS_ABORTED, sent, wanted, tx_ts, 0)
     }
 
     // The copy of a message, for a follower or a monitor.
-    pub fn message_copy(came: Message) -> Entry
-        ensures { λ r. ⌜ r ≡ messageCopy came ⌝ }
+    pub fn message_copy(came: Message, rx_ts: u64) -> Entry
+        ensures { λ r. ⌜ r ≡ messageCopy came «rx_ts» ⌝ }
     {
-        Entry::rx_entry(0, CEC_RX_STATUS_OK, came, 0)
+        Entry::rx_entry(0, CEC_RX_STATUS_OK, came, 0, 0, rx_ts)
     }
 
     pub fn none() -> Entry
         ensures { λ r. ⌜ r ≡ noEntry ⌝ }
     {
-        Entry::rx_entry(0, 0, Message::new(0, [0; 16]), 0)
+        Entry::rx_entry(0, 0, Message::new(0, [0; 16]), 0, 0, 0)
     }
 }

@@ -27,6 +27,12 @@ pub fn number_4(b0: u8, b1: u8, b2: u8, b3: u8) -> u32
     b0 as u32 + 256 * (b1 as u32 + 256 * (b2 as u32 + 256 * b3 as u32))
 }
 
+pub fn number_8(b0: u8, b1: u8, b2: u8, b3: u8, b4: u8, b5: u8, b6: u8, b7: u8) -> u64
+    ensures { λ r. ⌜ r ≡ numberAt (b0 ∷ b1 ∷ b2 ∷ b3 ∷ b4 ∷ b5 ∷ b6 ∷ b7 ∷ []) 0 8 ⌝ }
+{
+    number_4(b0, b1, b2, b3) as u64 + 4294967296 * number_4(b4, b5, b6, b7) as u64
+}
+
 // Fills an array with bytes from a place on.
 fn copy(r: [u8; 28], at: usize, to: &mut [u8])
     requires { ⌜ at + length (now to) ≤ 28 ⌝ }

@@ -1,4 +1,4 @@
--- Histories that no adapter may have, each with one thing wrong: the claim is false of each. So with the opcode of a timeout, and with modes.
+-- Histories that no adapter may have, each with one thing wrong: the claim is false of each. So with the opcode of a timeout, the sent time of a reply, and modes.
 -- Assumes nothing.
 use Prim.Native.Nat.{ℕ}
 use mathlib.Core.Bool.{true, false}
@@ -12,6 +12,7 @@ use Rattle.guarantee.proofs.Histories.{asks, tells}
 use Rattle.guarantee.specs.Claim.{Kept}
 use Rattle.guarantee.specs.Modes.{ModesHeld}
 use Rattle.guarantee.specs.Opcodes.{WantedShown}
+use Rattle.guarantee.specs.Timestamps.{SentShown}
 use Rattle.lists.specs.Tests.{clash}
 use Rattle.message.specs.Message.{message}
 use Rattle.message.specs.declared.Message.{Message}
@@ -39,14 +40,14 @@ abbrev asked : Step
 asked = call (callTransmit 0 asks) (accepted 1 0) (state [] []) (state [] [])
 
 abbrev ok : Entry
-ok = result 1 0x01 noCounts m
+ok = result 1 0x01 noCounts m 0
 
 abbrev answer : Entry
-answer = reply 1 m
+answer = reply 1 m 0 0
 
 -- a result, delivered
 abbrev sent : List Entry → List Entry → Step
-sent inbox0 inbox1 = call (callBusResult 0x01 noCounts) done (state [] []) (state inbox0 inbox1)
+sent inbox0 inbox1 = call (callBusResult 0x01 noCounts 0) done (state [] []) (state inbox0 inbox1)
 
 -- the result goes to handle 1
 pub wrong-handle : Kept (asked ∷ sent [] (ok ∷ []) ∷ []) → ⊥
@@ -54,7 +55,7 @@ wrong-handle k = let z = k .transmits [] asked (sent [] (ok ∷ []) ∷ []) refl
 
 -- the reply goes to handle 1, though handle 0 asked and had the result
 abbrev replied : List Entry → List Entry → Step
-replied inbox0 inbox1 = call (callMessage 3 (replicate 16 0)) done (state (ok ∷ []) []) (state inbox0 inbox1)
+replied inbox0 inbox1 = call (callMessage 3 (replicate 16 0) 0) done (state (ok ∷ []) []) (state inbox0 inbox1)
 
 pub wrong-reply : Kept (asked ∷ sent (ok ∷ []) [] ∷ replied (ok ∷ []) (answer ∷ []) ∷ []) → ⊥
 wrong-reply k =
@@ -88,7 +89,7 @@ abbrev shut : Step
 shut = call (callClose 0) done (state [] []) (state [] [])
 
 abbrev late : Step
-late = call (callMessage 3 (replicate 16 0)) done (state [] []) (state (answer ∷ []) [])
+late = call (callMessage 3 (replicate 16 0) 0) done (state [] []) (state (answer ∷ []) [])
 
 pub after-close : Kept (asked ∷ shut ∷ late ∷ []) → ⊥
 after-close k = let z = k .transmits [] asked (shut ∷ late ∷ []) refl 0 asks 1 refl refl .neverAfterClose [] shut (late ∷ []) refl refl .1 in omega arith
@@ -102,10 +103,10 @@ abbrev start : Step
 start = call (callOpen true) (opened 0) (state [] []) (state [] [])
 
 abbrev copied : Step
-copied = call (callMessage 2 (replicate 16 0)) done (state [] []) (state (messageCopy m ∷ []) [])
+copied = call (callMessage 2 (replicate 16 0) 0) done (state [] []) (state (messageCopy m 0 ∷ []) [])
 
 abbrev emptied : Step
-emptied = call (callMessage 2 (replicate 16 0)) done (state (messageCopy m ∷ []) []) (state [] [])
+emptied = call (callMessage 2 (replicate 16 0) 0) done (state (messageCopy m 0 ∷ []) []) (state [] [])
 
 pub pushed-out : Kept (start ∷ copied ∷ emptied ∷ []) → ⊥
 pushed-out k = let z = ap length (k .inboxes (start ∷ copied ∷ []) emptied refl 0 refl) in omega arith
@@ -122,17 +123,27 @@ never-ends k =
 
 -- nineteen bus results, and none of them is its
 abbrev other : Step
-other = call (callBusResult 0x01 noCounts) done (state [] []) (state [] [])
+other = call (callBusResult 0x01 noCounts 0) done (state [] []) (state [] [])
 
 pub forgotten : Kept (asked ∷ replicate 19 other) → ⊥
 forgotten k = let z = k .transmits [] asked (replicate 19 other) refl 0 asks 1 refl refl .oneResult refl (omega arith) in omega arith
 
 -- ---- a timeout that shows another opcode than was wanted
 abbrev expired : ℕ → Step
-expired code = call (callTime 1000) done (state (ok ∷ []) []) (state (ok ∷ timedOut 1 m code ∷ []) [])
+expired code = call (callTime 1000) done (state (ok ∷ []) []) (state (ok ∷ timedOut 1 m code 0 ∷ []) [])
 
 pub other-opcode : WantedShown (asked ∷ sent (ok ∷ []) [] ∷ expired 0x91 ∷ []) → ⊥
 other-opcode k = let z = k [] asked (sent (ok ∷ []) [] ∷ expired 0x91 ∷ []) refl 0 asks 1 refl refl in omega arith
+
+-- ---- a reply that shows another sent time than its transmit's result
+abbrev okAt : ℕ → Entry
+okAt ts = result 1 0x01 noCounts m ts
+
+abbrev repliedAt : ℕ → Step
+repliedAt ts = call (callMessage 3 (replicate 16 0) 7) done (state (okAt 5 ∷ []) []) (state (okAt 5 ∷ reply 1 m ts 7 ∷ []) [])
+
+pub other-time : SentShown (asked ∷ sent (okAt 5 ∷ []) [] ∷ repliedAt 7 ∷ []) → ⊥
+other-time k = let z = k [] asked (sent (okAt 5 ∷ []) [] ∷ repliedAt 7 ∷ []) refl 0 asks 1 refl refl 5 (omega arith) in omega arith
 
 -- ---- modes that no adapter may have
 -- handles 0 and 1 in these modes, handle 1 without privilege

@@ -95,17 +95,17 @@ module _ (s : State) (c : Call) (t : State) (e : Ends s c t) (h : ℕ) (l : h < 
 
   module _ (n : ℕ) (d : n ≢ 0) where
     -- a result shows its number and a status that is not 0, and no receive status
-    result-is : (x : Transmission) → isResult n (e .by .resultOf x) ≡ eqb (x .sequence) n
+    pub result-is : (x : Transmission) → isResult n (e .by .resultOf x) ≡ eqb (x .sequence) n
     result-is x = let z = e .by .results x in rw (z .sequence, z .transmitted, ne-eqb (e .by .status) 0 (e .by .final)) (and-true (eqb (x .sequence) n))
 
-    result-not : (x : Transmission) → bit (isReplyEntry n (e .by .resultOf x)) ≡ 0
+    pub result-not : (x : Transmission) → bit (isReplyEntry n (e .by .resultOf x)) ≡ 0
     result-not x = let z = e .by .results x in rw (z .received, and-false)
 
     -- a reply shows its number and a receive status, and no status of a transmit
     pub reply-is : (w : Wait) → isReplyEntry n (e .by .replyOf w) ≡ eqb (w .sequence) n
     reply-is w = let z = e .by .replies w in rw (z .sequence, ne-eqb (e .by .replyOf w .«rx_status») 0 (z .received)) (and-true (eqb (w .sequence) n))
 
-    reply-not : (w : Wait) → isResult n (e .by .replyOf w) ≡ false
+    pub reply-not : (w : Wait) → isResult n (e .by .replyOf w) ≡ false
     reply-not w = let z = e .by .replies w in rw (z .transmitted, and-false)
 
     -- results

@@ -35,8 +35,8 @@ use Rattle.wait.specs.Wait.{ownedBy}
 use Rattle.wait.specs.declared.Wait.{Wait}
 
 -- the wait of a proper transmission has a handle, a number and time left
-pub wait-proper : (x : Transmission) → improper x ≡ 0 → x .«wants_reply» ≡ true → (spent (waitFor x) ≡ 0) × (improperWait (waitFor x) ≡ 0)
-wait-proper x z w =
+pub wait-proper : (x : Transmission) (ts : ℕ) → improper x ≡ 0 → x .«wants_reply» ≡ true → (spent (waitFor x ts) ≡ 0) × (improperWait (waitFor x ts) ≡ 0)
+wait-proper x ts z w =
     split (ltb (x .owner) 8)
     (λ o. split (eqb (x .sequence) 0)
     (λ n. absurd (let y = rw (o, n) at z in omega arith))
@@ -61,29 +61,29 @@ module _ (s : State) (x : Transmission) (r : Inv s) (w : s .wire ≡ x ∷ []) w
   wait-fits e = omega (arith, few s r, on-wire (λ t. bit (t .«wants_reply»)), ap bit e)
 
   -- the waits afterwards
-  begun-waits : (status : ℕ) → begun status x (s .waits) ≡ s .waits ++ cond (hasBit CEC-TX-STATUS-OK status && x .«wants_reply») (waitFor x ∷ []) []
-  begun-waits status =
+  begun-waits : (status ts : ℕ) → begun status x ts (s .waits) ≡ s .waits ++ cond (hasBit CEC-TX-STATUS-OK status && x .«wants_reply») (waitFor x ts ∷ []) []
+  begun-waits status ts =
       split (hasBit CEC-TX-STATUS-OK status && x .«wants_reply»)
       (λ e. rw (e, lt-ltb (length (s .waits)) 32 (wait-fits (both (hasBit CEC-TX-STATUS-OK status) (x .«wants_reply») e .1))))
       (λ e. rw e (sym (append-nil (s .waits))))
 
-  begun-sum : (status : ℕ) (f : Wait → ℕ) → sum f (begun status x (s .waits)) ≡ sum f (s .waits) + begins f status x
-  begun-sum status f =
-      rw (begun-waits status)
+  begun-sum : (status ts : ℕ) (f : Wait → ℕ) → sum f (begun status x ts (s .waits)) ≡ sum f (s .waits) + begins f status ts x
+  begun-sum status ts f =
+      rw (begun-waits status ts)
       (split (hasBit CEC-TX-STATUS-OK status && x .«wants_reply»)
-      (λ e. rw e (omega (arith, sum-append f (s .waits) (waitFor x ∷ []))))
+      (λ e. rw e (omega (arith, sum-append f (s .waits) (waitFor x ts ∷ []))))
       (λ e. rw e (omega (arith, sum-append f (s .waits) []))))
 
   -- the wait that begins has time left
-  begun-timed : (status : ℕ) → begins spent status x ≡ 0
-  begun-timed status =
+  begun-timed : (status ts : ℕ) → begins spent status ts x ≡ 0
+  begun-timed status ts =
       split (hasBit CEC-TX-STATUS-OK status && x .«wants_reply»)
-      (λ e. rw e (wait-proper x wire-proper (both (hasBit CEC-TX-STATUS-OK status) (x .«wants_reply») e .1) .0))
+      (λ e. rw e (wait-proper x ts wire-proper (both (hasBit CEC-TX-STATUS-OK status) (x .«wants_reply») e .1) .0))
       (λ e. rw e)
 
   -- the room for the result, and for the reply if its wait begins
-  begun-owed : (status h : ℕ) → bit (eqb (x .owner) h) + begins (λ v. bit (ownedBy h v)) status x ≤ roomFor h x
-  begun-owed status h =
+  begun-owed : (status ts h : ℕ) → bit (eqb (x .owner) h) + begins (λ v. bit (ownedBy h v)) status ts x ≤ roomFor h x
+  begun-owed status ts h =
       split (eqb (x .owner) h)
       (λ o. split (hasBit CEC-TX-STATUS-OK status)
       (λ e. split (x .«wants_reply») (λ q. simp (o, e, q) (omega arith)) (λ q. simp (o, e, q) (omega arith)))
@@ -91,24 +91,24 @@ module _ (s : State) (x : Transmission) (r : Inv s) (w : s .wire ≡ x ∷ []) w
       (λ o. split (hasBit CEC-TX-STATUS-OK status && x .«wants_reply») (λ e. simp (o, e) (omega arith)) (λ e. simp (o, e) (omega arith)))
 
   -- a wait begins with the timeout of its transmission
-  begun-late : (status h n b : ℕ) → begins (awaitedAs (λ v. ltb b (v .left)) h n) status x ≤ sentAs (λ t. ltb b (t .timeout)) h n x
-  begun-late status h n b =
+  begun-late : (status ts h n b : ℕ) → begins (awaitedAs (λ v. ltb b (v .left)) h n) status ts x ≤ sentAs (λ t. ltb b (t .timeout)) h n x
+  begun-late status ts h n b =
       split (hasBit CEC-TX-STATUS-OK status && x .«wants_reply») (λ e. rw e (omega arith)) (λ e. rw e (omega arith))
 
-  module _ (status : ℕ) (kept : Counts) where
+  module _ (status : ℕ) (kept : Counts) (ts : ℕ) where
     -- the entry of its result; there is no reply here
     abbrev resultOf : Transmission → Entry
-    resultOf t = result (t .sequence) status kept (t .message)
+    resultOf t = result (t .sequence) status kept (t .message) ts
 
     -- the copies for monitors come first
     abbrev copied : State
-    copied = copies (inRole isMonitor) (resultCopy status kept (x .message)) s
+    copied = copies (inRole isMonitor) (resultCopy status kept (x .message) ts) s
 
     aside : Aside s copied
-    aside = copies-aside isMonitor (resultCopy status kept (x .message)) (resultCopy-shows status kept (x .message) .sequence) s
+    aside = copies-aside isMonitor (resultCopy status kept (x .message) ts) (resultCopy-shows status kept (x .message) ts .sequence) s
 
     -- what is left to be sent
-    left-sum : (f : Transmission → ℕ) → Owned f → sum f (pending (concluded s x status kept)) + f x ≡ sum f (pending s)
+    left-sum : (f : Transmission → ℕ) → Owned f → sum f (pending (concluded s x status kept ts)) + f x ≡ sum f (pending s)
     left-sum f z =
         omega (
           arith,
@@ -121,9 +121,9 @@ module _ (s : State) (x : Transmission) (r : Inv s) (w : s .wire ≡ x ∷ []) w
         )
 
     -- the others are one nearer
-    left-near : (f : Transmission → ℕ) → Owned f → last f (pending (concluded s x status kept)) ≤ last f (pending s) - 1
+    left-near : (f : Transmission → ℕ) → Owned f → last f (pending (concluded s x status kept ts)) ≤ last f (pending s) - 1
     left-near f z =
-        let a : last f (pending (concluded s x status kept)) ≡ last f (s .queue) =
+        let a : last f (pending (concluded s x status kept ts)) ≡ last f (s .queue) =
         ap (λ (l : List Transmission). last f (drop 1 l ++ copied .queue)) w
         ∙ ap (last f) (aside .queue)
         ∙ last-more f (s .queue) (map ownerless (aside .core)) (core-weightless f z (aside .core)) in
@@ -131,12 +131,12 @@ module _ (s : State) (x : Transmission) (r : Inv s) (w : s .wire ≡ x ∷ []) w
         omega (arith, last-tail f x (s .queue))
 
     -- the handle is owed less by the result that it gets
-    owed-less : (h : ℕ) → h < 8 → owedRoom (concluded s x status kept) h + count (λ t. eqb (t .owner) h) (x ∷ []) + 0 ≤ owedRoom s h
+    owed-less : (h : ℕ) → h < 8 → owedRoom (concluded s x status kept ts) h + count (λ t. eqb (t .owner) h) (x ∷ []) + 0 ≤ owedRoom s h
     unfolding roomOwed
-    owed-less h l = omega (arith, left-sum (roomFor h) (room-owned h l), begun-sum status (λ v. bit (ownedBy h v)), begun-owed status h)
+    owed-less h l = omega (arith, left-sum (roomFor h) (room-owned h l), begun-sum status ts (λ v. bit (ownedBy h v)), begun-owed status ts h)
 
     -- a bus result that is taken
-    pub busResult-ends : (counts : Counts) → status ≢ 0 → Ends s (callBusResult status counts) (concluded s x status kept)
+    pub busResult-ends : (counts : Counts) → status ≢ 0 → Ends s (callBusResult status counts ts) (concluded s x status kept ts)
     unfolding waitingAs
     busResult-ends counts d = record {
       sent = x ∷ [];
@@ -144,22 +144,26 @@ module _ (s : State) (x : Transmission) (r : Inv s) (w : s .wire ≡ x ∷ []) w
       by = record {
         status = status;
         final = d;
+        sentAt = ts;
         resultOf = resultOf;
         replyOf = timeoutEntry;
-        results = λ t. result-shows (t .sequence) status kept (t .message);
+        results = λ t. result-shows (t .sequence) status kept (t .message) ts;
         replies = λ v. shown-reply (timeoutEntry-shows v) (omega arith);
         wanted = λ v _. refl;
+        timed = λ t. refl;
+        told = λ v. refl;
       };
-      comes = λ h l. comes resultOf timeoutEntry h l s copied copied (concluded s x status kept) (x ∷ []) [] r aside refl refl (owed-less h l);
+      clocked = omega arith;
+      comes = λ h l. comes resultOf timeoutEntry h l s copied copied (concluded s x status kept ts) (x ∷ []) [] r aside refl refl (owed-less h l);
       closes = λ h. refl;
       modes = aside .modes;
       inboxes = length-set (copied .inboxes) (x .owner) _ ∙ aside .inboxes ∙ r .inboxes;
       queued = aside .fits (r .queued);
       wired = omega (arith, ap (λ (l : List Transmission). length (drop 1 l)) w);
       sends = λ f z. omega (arith, left-sum f z);
-      waits = λ f z. omega (arith, begun-sum status f);
+      waits = λ f z. omega (arith, begun-sum status ts f);
       older = λ f z. omega arith;
       nearer = λ f z. left-near f z;
-      timed = omega (arith, begun-sum status spent, begun-timed status, r .timed);
-      late = λ h n b. let z : b - 0 ≡ b = omega arith in rw z (omega (arith, begun-sum status (awaitedAs (λ v. ltb b (v .left)) h n), begun-late status h n b));
+      timed = omega (arith, begun-sum status ts spent, begun-timed status ts, r .timed);
+      late = λ h n b. let z : b - 0 ≡ b = omega arith in rw z (omega (arith, begun-sum status ts (awaitedAs (λ v. ltb b (v .left)) h n), begun-late status ts h n b));
     }

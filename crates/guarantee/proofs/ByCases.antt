@@ -30,7 +30,7 @@ use Rattle.lists.specs.Tests.{split, both, clash}
 use Rattle.lists.specs.Vector.{put}
 use Rattle.message.specs.Message.{message}
 use Rattle.rules.proofs.Accepted.{Roomy, all-passed}
-use Rattle.rules.proofs.Aside.{active-aside}
+use Rattle.rules.proofs.Aside.{active-aside, clock-aside}
 use Rattle.rules.proofs.Checks.{passed}
 use Rattle.rules.proofs.SameModes.{SameModes, modes-refl, same-many, same-open}
 use Rattle.rules.specs.BusResult.{doBusResult, isFinal, keptCounts, concluded}
@@ -46,7 +46,7 @@ use Rattle.rules.specs.Mode.{doMode, inMode, modeRefusal}
 use Rattle.rules.specs.Number.{nextSequence}
 use Rattle.rules.specs.Open.{doOpen, lowestClosed, openDone}
 use Rattle.rules.specs.Receive.{doReceive}
-use Rattle.rules.specs.State.{State, closedHandle, withHandles, withInboxes, withQueue, withWire, withLast, withSettings}
+use Rattle.rules.specs.State.{State, closedHandle, withHandles, withInboxes, withQueue, withWire, withLast, withSettings, withClock}
 use Rattle.rules.specs.Step.{step}
 use Rattle.rules.specs.Time.{doTime}
 use Rattle.rules.specs.Tracker.{doMessage}
@@ -140,11 +140,13 @@ module _ (s : State) (r : Inv s) (P : Call → Outcome → Type 0) (k : Cases s 
   start-case [] (x ∷ q) a b c d = k .whenStarted x q a b (λ h. same-came h (stepFrom s callBusStart (finish (started (x .message)) (withQueue (withWire s (x ∷ [])) q))) refl refl)
 
   -- a bus result found a message on the wire
-  result-case : (status : ℕ) (counts : Counts) (w : List Transmission) → s .wire ≡ w → length w ≤ 1 → ltb 0 (length w) ≡ true → isFinal status ≡ true
-      → P (callBusResult status counts) (finish done (concluded s (headOf w) status (keptCounts status counts)))
-  result-case status counts [] e l c f = clash c refl
-  result-case status counts (x ∷ []) e l c f = k .whenEnded (callBusResult status counts) _ (busResult-ends s x r e status (keptCounts status counts) counts (final-some status f))
-  result-case status counts (x ∷ (y ∷ w)) e l c f = absurd (omega arith)
+  result-case : (status : ℕ) (counts : Counts) (ts : ℕ) (w : List Transmission) → s .wire ≡ w → length w ≤ 1 → ltb 0 (length w) ≡ true → isFinal status ≡ true
+      → P (callBusResult status counts ts) (finish done (withClock (concluded s (headOf w) status (keptCounts status counts) ts) ts))
+  result-case status counts ts [] e l c f = clash c refl
+  result-case status counts ts (x ∷ []) e l c f =
+      let call = callBusResult status counts ts in
+      k .whenEnded call _ (ends-then s _ _ call (busResult-ends s x r e status (keptCounts status counts) ts counts (final-some status f)) (clock-aside _ ts))
+  result-case status counts ts (x ∷ (y ∷ w)) e l c f = absurd (omega arith)
 
   -- every call
   pub by-cases : (c : Call) → P c (step s c)
@@ -165,13 +167,13 @@ module _ (s : State) (r : Inv s) (P : Call → Outcome → Type 0) (k : Cases s 
       let a = passed (ltb 0 (length (s .wire))) EBUSY _ (omega arith) z in
       let b = passed (eqb (length (s .queue)) 0) EAGAIN 0 (omega arith) (a .1) in
       start-case (s .wire) (s .queue) refl refl (a .0) (b .0))
-  by-cases (callBusResult status counts) = checked (callBusResult status counts) _ _ refl (λ z.
-      let a = passed (not (ltb 0 (length (s .wire)) && isFinal status)) EINVAL 0 (omega arith) z in
+  by-cases (callBusResult status counts ts) = checked (callBusResult status counts ts) _ _ refl (λ z.
+      let a = passed (not (ltb 0 (length (s .wire)) && isFinal status)) EINVAL _ (omega arith) z in
       let b = both (ltb 0 (length (s .wire))) (isFinal status) (not-false (ltb 0 (length (s .wire)) && isFinal status) (a .0)) in
-      result-case status counts (s .wire) refl (r .wired) (b .0) (b .1))
-  by-cases (callMessage n bytes) = checked (callMessage n bytes) _ _ refl (λ z.
-      let c = callMessage n bytes in
-      k .whenEnded c _ (ends-then s _ _ c (message-ends s r (message n bytes) n bytes _ _) (active-aside _ _)))
+      result-case status counts ts (s .wire) refl (r .wired) (b .0) (b .1))
+  by-cases (callMessage n bytes ts) = checked (callMessage n bytes ts) _ _ refl (λ z.
+      let c = callMessage n bytes ts in
+      k .whenEnded c _ (ends-then s _ _ c (message-ends s r (message n bytes) n bytes ts _ _) (active-aside _ _ ts)))
   by-cases (callTime ms) = k .whenEnded (callTime ms) _ (time-ends ms s r)
   by-cases (callConfigure x) = checked (callConfigure x) _ _ refl (λ z. unmoved _ _ (withSettings s (keptSettings x)) (modes-refl s) (λ h. (refl, refl, refl, refl, refl)) (λ n q. clash q refl))
   by-cases callUnconfigure = k .whenEnded callUnconfigure _ (unconfigure-ends s r)

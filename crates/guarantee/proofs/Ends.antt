@@ -25,6 +25,7 @@ use Rattle.rules.specs.Call.{Call}
 use Rattle.rules.specs.Handles.{hasBit}
 use Rattle.rules.specs.Owed.{pending}
 use Rattle.rules.specs.State.{State}
+use Rattle.rules.specs.Timestamps.{timeIn}
 use Rattle.rules.specs.Unconfigure.{abortedResult, abortEntry}
 use Rattle.transmission.specs.Transmission.{ownerless}
 use Rattle.transmission.specs.declared.Transmission.{Transmission}
@@ -35,9 +36,9 @@ use Rattle.wait.specs.declared.Wait.{Wait}
 abbrev pub Timeless : (Wait → ℕ) → Type 0
 Timeless f = (ms : ℕ) (w : Wait) → f (reduced ms w) ≡ f w
 
--- the weight of the wait that begins when a transmission ends with this status
-abbrev pub begins : (Wait → ℕ) → ℕ → Transmission → ℕ
-begins f status x = cond (hasBit CEC-TX-STATUS-OK status && x .«wants_reply») (f (waitFor x)) 0
+-- the weight of the wait that begins when a transmission ends with this status at this time
+abbrev pub begins : (Wait → ℕ) → ℕ → ℕ → Transmission → ℕ
+begins f status ts x = cond (hasBit CEC-TX-STATUS-OK status && x .«wants_reply») (f (waitFor x ts)) 0
 
 -- an entry that ends a wait
 pub record Replies (number : ℕ) (e : Entry) : Type 0 where
@@ -53,19 +54,37 @@ shown-reply x d = record { sequence = x .sequence; transmitted = x .transmitted;
 abbrev pub ShowsWanted : (Wait → Entry) → Type 0
 ShowsWanted replyOf = (w : Wait) → hasBit CEC-RX-STATUS-OK (replyOf w .«rx_status») ≡ false → replyOf w .reply ≡ w .reply
 
--- with what status transmissions end, and the entries by which they and the waits end
+-- each entry that ends a wait shows the time of its transmit's result (document 02, W-208)
+abbrev pub ShowsSent : (Wait → Entry) → Type 0
+ShowsSent replyOf = (w : Wait) → replyOf w .«tx_ts» ≡ w .«tx_ts»
+
+-- with what status and at what time transmissions end, and the entries by which they and the waits end
 pub record Ending : Type 0 where
   pub status : ℕ
   pub final : status ≢ 0
+  pub sentAt : ℕ
   pub resultOf : Transmission → Entry
   pub replyOf : Wait → Entry
   pub results : (x : Transmission) → Shows (x .sequence) status 0 (resultOf x)
   pub replies : (w : Wait) → Replies (w .sequence) (replyOf w)
   pub wanted : ShowsWanted replyOf
+  pub timed : (x : Transmission) → resultOf x .«tx_ts» ≡ sentAt
+  pub told : ShowsSent replyOf
 
 -- transmissions are aborted
-abbrev pub aborts : (replyOf : Wait → Entry) → ((w : Wait) → Replies (w .sequence) (replyOf w)) → ShowsWanted replyOf → Ending
-aborts replyOf replies wanted = record { status = CEC-TX-STATUS-ABORTED; final = omega arith; resultOf = abortedResult; replyOf = replyOf; results = abortedResult-shows; replies = replies; wanted = wanted }
+abbrev pub aborts : (replyOf : Wait → Entry) → ((w : Wait) → Replies (w .sequence) (replyOf w)) → ShowsWanted replyOf → ShowsSent replyOf → Ending
+aborts replyOf replies wanted told = record {
+  status = CEC-TX-STATUS-ABORTED;
+  final = omega arith;
+  sentAt = 0;
+  resultOf = abortedResult;
+  replyOf = replyOf;
+  results = abortedResult-shows;
+  replies = replies;
+  wanted = wanted;
+  timed = λ x. refl;
+  told = told;
+}
 
 -- from s the call leads to t
 pub record Ends (s : State) (c : Call) (t : State) : Type 0 where
@@ -73,6 +92,8 @@ pub record Ends (s : State) (c : Call) (t : State) : Type 0 where
   pub sent : List Transmission
   pub over : List Wait
   pub by : Ending
+  -- a transmission that a bus result ends shows the time of that call
+  pub clocked : by .sentAt ≤ timeIn c
   pub comes : (h : ℕ) → h < 8 → Comes h s t (entriesTo (by .resultOf) (by .replyOf) h sent over)
   -- no handle is opened or closed, no mode is set, and nothing is past its bounds
   pub closes : (h : ℕ) → isClose h c ≡ false
@@ -82,7 +103,7 @@ pub record Ends (s : State) (c : Call) (t : State) : Type 0 where
   pub wired : length (t .wire) ≤ 1
   -- every transmission of a handle is still to be sent, or ends; every wait waits still, or ends; and those sent with the OK bit that want a reply wait
   pub sends : (f : Transmission → ℕ) → Owned f → sum f (pending t) + sum f sent ≡ sum f (pending s)
-  pub waits : (f : Wait → ℕ) → Timeless f → sum f (t .waits) + sum f over ≡ sum f (s .waits) + sum (begins f (by .status)) sent
+  pub waits : (f : Wait → ℕ) → Timeless f → sum f (t .waits) + sum f over ≡ sum f (s .waits) + sum (begins f (by .status) (by .sentAt)) sent
   pub older : (f : Wait → ℕ) → Timeless f → sum f over ≤ sum f (s .waits)
   -- each bus result brings those to be sent one nearer
   pub nearer : (f : Transmission → ℕ) → Owned f → last f (pending t) ≤ last f (pending s) - bit (isBusResult c)
@@ -96,7 +117,8 @@ unfolding waitingAs
 aside-ends s t c r a close bus time = record {
   sent = [];
   over = [];
-  by = aborts abortEntry (λ w. shown-reply (abortEntry-shows w) (omega arith)) (λ w _. refl);
+  by = aborts abortEntry (λ w. shown-reply (abortEntry-shows w) (omega arith)) (λ w _. refl) (λ w. refl);
+  clocked = omega arith;
   comes = λ h l. comes-aside h l s t r a;
   closes = close;
   modes = a .modes;

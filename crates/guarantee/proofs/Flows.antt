@@ -62,14 +62,14 @@ module _ (h n : ℕ) (l : h < 8) (d : n ≢ 0) (s : State) (r : Inv s) where
       }
 
   -- ---- what ends transmissions and waits: a wait begins of a result with the OK bit, of a transmission that wants a reply, and of each such
-  abbrev begun : ℕ → Transmission → ℕ
+  abbrev begun : ℕ → ℕ → Transmission → ℕ
   begun = begins (awaitedAs always h n)
 
   abbrev oks : ℕ → Transmission → ℕ
   oks status x = cond (hasBit CEC-TX-STATUS-OK status) (sentAs always h n x) 0
 
-  begun-of : (status : ℕ) (x : Transmission) → (begun status x ≤ oks status x) × (begun status x ≤ sentAs wanting h n x) × (oks status x ≤ begun status x + sentAs unwanting h n x)
-  begun-of status x =
+  begun-of : (status ts : ℕ) (x : Transmission) → (begun status ts x ≤ oks status x) × (begun status ts x ≤ sentAs wanting h n x) × (oks status x ≤ begun status ts x + sentAs unwanting h n x)
+  begun-of status ts x =
       split (hasBit CEC-TX-STATUS-OK status)
       (λ e. split (x .«wants_reply») (λ q. rw (e, q) (omega arith)) (λ q. rw (e, q) (omega arith)))
       (λ e. rw e (omega arith))
@@ -79,6 +79,7 @@ module _ (h n : ℕ) (l : h < 8) (d : n ≢ 0) (s : State) (r : Inv s) where
   unfolding sendingAs waitingAs placed
   ended-flow c t e =
       let st = e .by .status in
+      let at = e .by .sentAt in
       let zr = ended-results s c t e h l n d in
       let zp = ended-replies s c t e h l n d in
       let zo = ended-oks s c t e h l n d in
@@ -91,13 +92,13 @@ module _ (h n : ℕ) (l : h < 8) (d : n ≢ 0) (s : State) (r : Inv s) where
         nearer = λ _ _. e .nearer (sentAs always h n) (sent-owned always h n l);
         alike = λ q _. omega (arith, own q);
         repliesOf = omega (arith, e .older (awaitedAs always h n) (λ ms w. refl));
-        replies = omega (arith, sum-le (begun st) (oks st) (e .sent) (λ x. begun-of st x .0));
-        wantedReplies = λ _. omega (arith, own wanting, sum-le (begun st) (sentAs wanting h n) (e .sent) (λ x. begun-of st x .1));
+        replies = omega (arith, sum-le (begun st at) (oks st) (e .sent) (λ x. begun-of st at x .0));
+        wantedReplies = λ _. omega (arith, own wanting, sum-le (begun st at) (sentAs wanting h n) (e .sent) (λ x. begun-of st at x .1));
         allReplies = λ _. omega (
           arith,
           own unwanting,
-          sum-le (oks st) (λ x. begun st x + sentAs unwanting h n x) (e .sent) (λ x. begun-of st x .2),
-          sum-plus (begun st) (sentAs unwanting h n) (e .sent),
+          sum-le (oks st) (λ x. begun st at x + sentAs unwanting h n x) (e .sent) (λ x. begun-of st at x .2),
+          sum-plus (begun st at) (sentAs unwanting h n) (e .sent),
         );
         time = λ b. omega (arith, e .late h n b, own (longer b));
         given = λ q. clash q refl;

@@ -9,6 +9,7 @@ use Rattle.entry.specs.Entry.{noCounts}
 use Rattle.guarantee.specs.Claim.{enoughResults}
 use Rattle.guarantee.specs.Opcodes.{showsOther}
 use Rattle.guarantee.specs.Room.{handleWaits, allWaits}
+use Rattle.guarantee.specs.Timestamps.{resultAt, showsOtherTime}
 use Rattle.guarantee.specs.Seen.{came, cameToAny, gave, results, okResults, replies, busResults, closings, elapsed, own, sinceOpen, joined}
 use Rattle.lists.specs.Sums.{count}
 use Rattle.rules.proofs.KnownAnswers.{every-rule}
@@ -16,6 +17,7 @@ use Rattle.rules.specs.Call.{Call, Request, accepted, callOpen, callClose, call
 use Rattle.rules.specs.Cases.{benchSettings}
 use Rattle.rules.specs.State.{State, fresh}
 use Rattle.rules.specs.Step.{Step, after, step, run}
+use Rattle.rules.specs.Timestamps.{timesOf}
 use Rattle.wait.specs.Wait.{ownedBy}
 
 -- a power status asked for, and the same message with no reply wanted
@@ -25,8 +27,11 @@ asks = record { length = 2; bytes = 0x40 ∷ 0x8F ∷ replicate 14 0; reply = 0x
 abbrev pub tells : Request
 tells = record { length = 2; bytes = 0x40 ∷ 0x8F ∷ replicate 14 0; reply = 0; timeout = 0; flags = 0 }
 
+abbrev statusAt : ℕ → Call
+statusAt ts = callMessage 3 (0x04 ∷ 0x90 ∷ replicate 14 0) ts
+
 abbrev status : Call
-status = callMessage 3 (0x04 ∷ 0x90 ∷ replicate 14 0)
+status = statusAt 0
 
 -- some handles opened, and the adapter configured; then some more calls
 abbrev begin : ℕ → List Call → List Call
@@ -51,7 +56,7 @@ abbrev entries : ℕ → List Step → List ℕ
 entries h xs = length (joined (came h) (sinceOpen h xs)) ∷ length (joined (gave h) (sinceOpen h xs)) ∷ []
 
 abbrev sending : List Call
-sending = callBusStart ∷ callBusResult 0x01 noCounts ∷ callBusStart ∷ callBusResult 0x01 noCounts ∷ []
+sending = callBusStart ∷ callBusResult 0x01 noCounts 0 ∷ callBusStart ∷ callBusResult 0x01 noCounts 0 ∷ []
 
 -- both are answered: each has its result and its reply
 abbrev answered : List Step
@@ -72,7 +77,7 @@ one-closed = (refl, refl)
 
 -- an unconfigure ends the one on the wire and the one that waits
 abbrev ended : List Step
-ended = history (callBusStart ∷ callBusResult 0x01 noCounts ∷ callBusStart ∷ callUnconfigure ∷ [])
+ended = history (callBusStart ∷ callBusResult 0x01 noCounts 0 ∷ callBusStart ∷ callUnconfigure ∷ [])
 
 all-ended : (seen 1 (drop 4 ended) ≡ 1 ∷ 1 ∷ 1 ∷ 1 ∷ 0 ∷ 0 ∷ []) × (seen 2 (drop 5 ended) ≡ 1 ∷ 0 ∷ 0 ∷ 1 ∷ 0 ∷ 0 ∷ [])
 unfolding every-rule
@@ -87,6 +92,29 @@ wanted-shown : (shown 2 (drop 5 closed) ≡ 0 ∷ 1 ∷ []) × (shown 1 (drop 4 
 unfolding every-rule
 wanted-shown = (refl, refl, refl, refl)
 
+-- ---- times
+-- results at 5 and 6, a message at 4, which is refused, and replies at 7 and 8
+abbrev timed : List Step
+timed =
+    history
+    (callBusStart
+    ∷ callBusResult 0x01 noCounts 5
+    ∷ callBusStart
+    ∷ callBusResult 0x01 noCounts 6
+    ∷ statusAt 4
+    ∷ statusAt 7
+    ∷ statusAt 8
+    ∷ [])
+
+-- of number n: results that show ts, and replies that show another sent time
+abbrev shownAt : ℕ → ℕ → List Step → List ℕ
+shownAt n ts later = cameToAny (resultAt n ts) (own n later) ∷ cameToAny (showsOtherTime n ts) (own n later) ∷ []
+
+-- each reply shows the sent time of its own result; the times that were accepted rise
+times-shown : (shownAt 1 5 (drop 4 timed) ≡ 1 ∷ 0 ∷ []) × (shownAt 1 6 (drop 4 timed) ≡ 0 ∷ 1 ∷ []) × (shownAt 2 6 (drop 5 timed) ≡ 1 ∷ 0 ∷ []) × (timesOf timed ≡ 5 ∷ 6 ∷ 7 ∷ 8 ∷ [])
+unfolding every-rule
+times-shown = (refl, refl, refl, refl)
+
 -- ---- the numbers of the claim and of the room are reached
 -- calls k times, and then others
 abbrev again : ℕ → List Call → List Call → List Call
@@ -99,18 +127,18 @@ busy = after start (begin 2 (callTransmit 0 tells ∷ callBusStart ∷ replicate
 
 -- handle 1 sends one more, under number 19; what was before it is sent, and it is on the wire; then some more calls
 abbrev behind : List Call → List Step
-behind more = run (step busy (callTransmit 1 tells) .state) (again 18 (callBusResult 0x01 noCounts ∷ callBusStart ∷ []) more)
+behind more = run (step busy (callTransmit 1 tells) .state) (again 18 (callBusResult 0x01 noCounts 0 ∷ callBusStart ∷ []) more)
 
 -- it has not had its result after one bus result less than nineteen, and has it with the nineteenth
 last-of-nineteen : (length (busy .wire) ≡ 1) × (length (busy .queue) ≡ 17) × (step busy (callTransmit 1 tells) .answer ≡ accepted 19 0)
     × (busResults (behind []) + 1 ≡ enoughResults) × (results 19 (own 19 (behind [])) ≡ 0)
-    × (busResults (behind (callBusResult 0x01 noCounts ∷ [])) ≡ enoughResults) × (results 19 (own 19 (behind (callBusResult 0x01 noCounts ∷ []))) ≡ 1)
+    × (busResults (behind (callBusResult 0x01 noCounts 0 ∷ [])) ≡ enoughResults) × (results 19 (own 19 (behind (callBusResult 0x01 noCounts 0 ∷ []))) ≡ 1)
 unfolding every-rule
 last-of-nineteen = (refl, refl, refl, refl, refl, refl, refl)
 
 -- a handle asks, and its message is sent; each of several handles, four times
 abbrev asking : ℕ → List Call
-asking h = callTransmit h asks ∷ callBusStart ∷ callBusResult 0x01 noCounts ∷ []
+asking h = callTransmit h asks ∷ callBusStart ∷ callBusResult 0x01 noCounts 0 ∷ []
 
 abbrev allAsking : List ℕ → List Call → List Call
 allAsking [] more = more

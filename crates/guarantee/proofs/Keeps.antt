@@ -78,11 +78,11 @@ started-kept s x q a b r =
     same-kept s (withQueue (withWire s (x ∷ [])) q) r (r .handles) (r .inboxes) (omega (arith, r .queued, ap length b)) (omega arith) (sym (ap₂ _++_ a b)) refl (λ h. omega arith) (λ h e. e)
 
 -- the wait that begins is proper, of the number of its transmission, and of a handle that wanted a reply
-begins-proper : (status : ℕ) (x : Transmission) → begins improperWait status x ≤ improper x
-begins-proper status x =
+begins-proper : (status ts : ℕ) (x : Transmission) → begins improperWait status ts x ≤ improper x
+begins-proper status ts x =
     split (hasBit CEC-TX-STATUS-OK status && x .«wants_reply»)
     (λ e. rw e (split (isProper x)
-    (λ p. omega (arith, wait-proper x (rw p) (both (hasBit CEC-TX-STATUS-OK status) (x .«wants_reply») e .1) .1))
+    (λ p. omega (arith, wait-proper x ts (rw p) (both (hasBit CEC-TX-STATUS-OK status) (x .«wants_reply») e .1) .1))
     (λ p. rw p (less (ltb (x .owner) 8 && not (eqb (x .sequence) 0))))))
     (λ e. rw e (omega arith))
   where
@@ -90,11 +90,11 @@ begins-proper status x =
     less true = omega arith
     less false = omega arith
 
-begins-numbered : (n status : ℕ) (x : Transmission) → begins (λ w. bit (Wait.numbered n w)) status x ≤ bit (numbered n x)
-begins-numbered n status x = split (hasBit CEC-TX-STATUS-OK status && x .«wants_reply») (λ e. rw e (omega arith)) (λ e. rw e (omega arith))
+begins-numbered : (n status ts : ℕ) (x : Transmission) → begins (λ w. bit (Wait.numbered n w)) status ts x ≤ bit (numbered n x)
+begins-numbered n status ts x = split (hasBit CEC-TX-STATUS-OK status && x .«wants_reply») (λ e. rw e (omega arith)) (λ e. rw e (omega arith))
 
-begins-asked : (h status : ℕ) (x : Transmission) → begins (λ w. bit (ownedBy h w)) status x ≤ replyFor h x
-begins-asked h status x =
+begins-asked : (h status ts : ℕ) (x : Transmission) → begins (λ w. bit (ownedBy h w)) status ts x ≤ replyFor h x
+begins-asked h status ts x =
     split (x .«wants_reply»)
     (λ q. split (hasBit CEC-TX-STATUS-OK status)
     (λ e. split (eqb (x .owner) h) (λ o. simp (e, q, o) (omega arith)) (λ o. simp (e, q, o) (omega arith)))
@@ -102,9 +102,9 @@ begins-asked h status x =
     (λ q. split (hasBit CEC-TX-STATUS-OK status) (λ e. rw (e, q) (omega arith)) (λ e. rw e (omega arith)))
 
 -- a call that ends transmissions and waits: what waits afterwards waited before, or comes of what was sent
-most-waits : (s t : State) (c : Call) (e : Ends s c t) (f : Wait → ℕ) (g : Transmission → ℕ) → Timeless f → ((status : ℕ) (x : Transmission) → begins f status x ≤ g x)
+most-waits : (s t : State) (c : Call) (e : Ends s c t) (f : Wait → ℕ) (g : Transmission → ℕ) → Timeless f → ((status ts : ℕ) (x : Transmission) → begins f status ts x ≤ g x)
     → sum f (t .waits) ≤ sum f (s .waits) + sum g (e .sent)
-most-waits s t c e f g z k = omega (arith, e .waits f z, sum-le (begins f (e .by .status)) g (e .sent) (k (e .by .status)))
+most-waits s t c e f g z k = omega (arith, e .waits f z, sum-le (begins f (e .by .status) (e .by .sentAt)) g (e .sent) (k (e .by .status) (e .by .sentAt)))
 
 ended-kept : (s t : State) (c : Call) → Inv s → Ends s c t → Inv t
 unfolding repliesWanted carriedBy

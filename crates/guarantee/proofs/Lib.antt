@@ -28,5 +28,8 @@ pub mod Since
 pub mod Claim
 pub mod Room
 pub mod Modes
+pub mod EveryEntry
 pub mod Opcodes
+pub mod Timestamps
 pub mod Wanted
+pub mod Sent

@@ -24,6 +24,7 @@ use Rattle.message.specs.declared.Message.{Message}
 use Rattle.rules.proofs.Aside.{Aside, aside-trans, aside-pending, aside-sum, core-weightless, room-owned, copies-aside, notes-aside, answers-aside, followed-aside, refusedMessage-aside}
 use Rattle.rules.proofs.Entries.{replyEntry-shows, messageCopy-shows}
 use Rattle.rules.proofs.SameModes.{modes-trans, same-open}
+use Rattle.rules.proofs.Timestamps.{reply-times}
 use Rattle.rules.specs.Call.{Call, callMessage}
 use Rattle.rules.specs.Core.{answers, notes}
 use Rattle.rules.specs.Deliver.{deliver, copies}
@@ -44,6 +45,7 @@ ends-then s t u c e a = record {
   sent = e .sent;
   over = e .over;
   by = e .by;
+  clocked = e .clocked;
   comes = λ h l. comes-then h l s t u _ (e .comes h l) (same-open s t (e .modes) h) a;
   closes = e .closes;
   modes = modes-trans s t u (e .modes) (a .modes);
@@ -59,16 +61,16 @@ ends-then s t u c e a = record {
 }
 
 -- the reply's entry shows a receive status
-reply-shown : (n : ℕ) (m : Message) → Replies n (replyEntry n m)
-reply-shown n m = shown-reply (replyEntry-shows n m) (split (isFeatureAbort (opcode (m .bytes))) (λ e. rw e (omega arith)) (λ e. rw e (omega arith)))
+reply-shown : (w : Wait) (m : Message) (ts : ℕ) → Replies (w .sequence) (replyEntry w m ts)
+reply-shown w m ts = shown-reply (replyEntry-shows w m ts) (split (isFeatureAbort (opcode (m .bytes))) (λ e. rw e (omega arith)) (λ e. rw e (omega arith)))
 
 -- with the OK bit
-reply-ok : (n : ℕ) (m : Message) → hasBit CEC-RX-STATUS-OK (replyEntry n m .«rx_status») ≡ true
-reply-ok n m = split (isFeatureAbort (opcode (m .bytes))) (λ e. rw e) (λ e. rw e)
+reply-ok : (w : Wait) (m : Message) (ts : ℕ) → hasBit CEC-RX-STATUS-OK (replyEntry w m ts .«rx_status») ≡ true
+reply-ok w m ts = split (isFeatureAbort (opcode (m .bytes))) (λ e. rw e) (λ e. rw e)
 
-module _ (s : State) (r : Inv s) (m : Message) (k : ℕ) (bytes : List ℕ) where
+module _ (s : State) (r : Inv s) (m : Message) (k : ℕ) (bytes : List ℕ) (ts : ℕ) where
   abbrev call : Call
-  call = callMessage k bytes
+  call = callMessage k bytes ts
 
   -- after the copies to monitors, the wait at a place ends
   module _ (c : State) (a : Aside s c) (i : ℕ) (l : i < length (s .waits)) where
@@ -79,7 +81,7 @@ module _ (s : State) (r : Inv s) (m : Message) (k : ℕ) (bytes : List ℕ) wher
     rest = without i (s .waits)
 
     abbrev replyOf : Wait → Entry
-    replyOf w = replyEntry (w .sequence) m
+    replyOf w = replyEntry w m ts
 
     abbrev after : State
     after = deliver (withWaits c rest) (wait .owner) (replyOf wait)
@@ -94,7 +96,8 @@ module _ (s : State) (r : Inv s) (m : Message) (k : ℕ) (bytes : List ℕ) wher
     reply-ends = record {
       sent = [];
       over = wait ∷ [];
-      by = aborts replyOf (λ w. reply-shown (w .sequence) m) (λ w q. clash (reply-ok (w .sequence) m) q);
+      by = aborts replyOf (λ w. reply-shown w m ts) (λ w q. clash (reply-ok w m ts) q) (λ w. reply-times w m ts .0);
+      clocked = omega arith;
       comes = λ h q. comes abortedResult replyOf h q s c (withWaits c rest) after [] (wait ∷ []) r a refl refl (owed-less h q);
       closes = λ h. refl;
       modes = a .modes;
@@ -111,41 +114,41 @@ module _ (s : State) (r : Inv s) (m : Message) (k : ℕ) (bytes : List ℕ) wher
 
   -- steps 4 to 6
   abbrev later : State → Bool → List ℕ → Taken → State
-  later t said reply x = refusedMessage (followed (answers (notes t m) said reply) said x m) said x m
+  later t said reply x = refusedMessage (followed (answers (notes t m) said reply) said x m ts) said x m
 
   -- they end no wait
   later-aside : (t : State) (said : Bool) (reply : List ℕ) (x : Taken) → Aside t (later t said reply x)
   later-aside t said reply x =
       let b = notes t m in
       let c = answers b said reply in
-      let d = followed c said x m in
+      let d = followed c said x m ts in
       aside-trans t b (later t said reply x) (notes-aside t m)
       (aside-trans b c (later t said reply x) (answers-aside b said reply)
-      (aside-trans c d (later t said reply x) (followed-aside c said x m) (refusedMessage-aside d said x m)))
+      (aside-trans c d (later t said reply x) (followed-aside c said x m ts) (refusedMessage-aside d said x m)))
 
   -- steps 3 to 6: a wait is found, or none
-  handled-ends : (c : State) → Aside s c → (said : Bool) (reply : List ℕ) (i : ℕ) → Ends s call (handled c said reply (takenAt i (s .waits)) m)
+  handled-ends : (c : State) → Aside s c → (said : Bool) (reply : List ℕ) (i : ℕ) → Ends s call (handled c said reply (takenAt i (s .waits)) m ts)
   handled-ends c a said reply i =
       split (ltb i (length (s .waits)))
       (λ q. found q (ltb-true i (length (s .waits)) q))
       (λ q. none q)
     where
-      found : ltb i (length (s .waits)) ≡ true → i < length (s .waits) → Ends s call (later (replied c (takenAt i (s .waits)) m) said reply (takenAt i (s .waits)))
+      found : ltb i (length (s .waits)) ≡ true → i < length (s .waits) → Ends s call (later (replied c (takenAt i (s .waits)) m ts) said reply (takenAt i (s .waits)))
       found q l =
-          let e : replied c (takenAt i (s .waits)) m ≡ after c a i l = rw q in
+          let e : replied c (takenAt i (s .waits)) m ts ≡ after c a i l = rw q in
           rw e (ends-then s (after c a i l) _ call (reply-ends c a i l) (later-aside (after c a i l) said reply (takenAt i (s .waits))))
 
-      none : ltb i (length (s .waits)) ≡ false → Ends s call (later (replied c (takenAt i (s .waits)) m) said reply (takenAt i (s .waits)))
+      none : ltb i (length (s .waits)) ≡ false → Ends s call (later (replied c (takenAt i (s .waits)) m ts) said reply (takenAt i (s .waits)))
       none q =
-          let e : replied c (takenAt i (s .waits)) m ≡ c = rw q in
+          let e : replied c (takenAt i (s .waits)) m ts ≡ c = rw q in
           rw e (aside-ends s _ call r (aside-trans s c _ a (later-aside c said reply (takenAt i (s .waits)))) (λ h. refl) refl refl)
 
   -- a message that is taken
-  pub message-ends : (said : Bool) (reply : List ℕ) → Ends s call (heardWith s said reply m)
+  pub message-ends : (said : Bool) (reply : List ℕ) → Ends s call (heardWith s said reply m ts)
   unfolding heardWith matchTaken
   message-ends said reply =
-      let c = copies (inRole (monitors s m)) (messageCopy m) s in
-      let a = copies-aside (monitors s m) (messageCopy m) (messageCopy-shows m .sequence) s in
+      let c = copies (inRole (monitors s m)) (messageCopy m ts) s in
+      let a = copies-aside (monitors s m) (messageCopy m ts) (messageCopy-shows m ts .sequence) s in
       split (stops s m)
       (λ q. rw q (aside-ends s c call r a (λ h. refl) refl refl))
       (λ q. rw q (handled-ends c a said reply (first (answeredBy m) (s .waits))))

@@ -111,11 +111,11 @@ module _ (s : State) (r : Inv s) where
   room : Room s
   room = record {
     owed = r .room;
-    result = λ t e l status counts.
-        copied-room _ (copies-aside isMonitor (resultCopy status counts (t .message)) (resultCopy-shows status counts (t .message) .sequence) s) (t .owner) l
-        (owed-transmit [] t (s .queue) (ap (λ (ts : List Transmission). ts ++ s .queue) e));
+    result = λ t e l status counts ts.
+        copied-room _ (copies-aside isMonitor (resultCopy status counts (t .message) ts) (resultCopy-shows status counts (t .message) ts .sequence) s) (t .owner) l
+        (owed-transmit [] t (s .queue) (ap (λ (l : List Transmission). l ++ s .queue) e));
     wait = λ t e w. omega (arith, wait-fits s t r e w);
-    reply = λ past w rest e m. copied-room _ (copies-aside (monitors s m) (messageCopy m) (messageCopy-shows m .sequence) s) (w .owner) (home past w rest e) (owed-wait past w rest e);
+    reply = λ past w rest e m ts. copied-room _ (copies-aside (monitors s m) (messageCopy m ts) (messageCopy-shows m ts .sequence) s) (w .owner) (home past w rest e) (owed-wait past w rest e);
     timeout = timeout-room;
     abortedTransmit = transmit-room;
     abortedWait = wait-room;

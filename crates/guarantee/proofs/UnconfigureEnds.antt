@@ -57,7 +57,8 @@ module _ (s : State) where
   all-end is r e = record {
     sent = pending s;
     over = s .waits;
-    by = aborts abortEntry (λ w. shown-reply (abortEntry-shows w) (omega arith)) (λ w _. refl);
+    by = aborts abortEntry (λ w. shown-reply (abortEntry-shows w) (omega arith)) (λ w _. refl) (λ w. refl);
+    clocked = omega arith;
     comes = λ h l. comes abortedResult abortEntry h l s s (unset s) (withInboxes (unset s) is) (pending s) (s .waits) r (aside-refl s) refl e (owed-all s h);
     closes = λ h. refl;
     modes = modes-refl s;
@@ -65,7 +66,7 @@ module _ (s : State) where
     queued = omega arith;
     wired = omega arith;
     sends = λ f z. omega arith;
-    waits = λ f z. omega (arith, sum-zero (begins f CEC-TX-STATUS-ABORTED) (pending s) (λ x. refl));
+    waits = λ f z. omega (arith, sum-zero (begins f CEC-TX-STATUS-ABORTED 0) (pending s) (λ x. refl));
     older = λ f z. omega arith;
     nearer = λ f z. omega arith;
     timed = refl;

@@ -68,7 +68,7 @@ module _ (k h n : ℕ) (l : h < 8) (d : n ≢ 0) where
           (λ q. rw q (omega arith))
 
       -- a wait wants what its transmission wanted
-      of-sent : (x : Transmission) → begins (awaitedAs (otherAwaited k) h n) (e .by .status) x ≤ sentAs (otherSent k) h n x
+      of-sent : (x : Transmission) → begins (awaitedAs (otherAwaited k) h n) (e .by .status) (e .by .sentAt) x ≤ sentAs (otherSent k) h n x
       of-sent x = split (hasBit CEC-TX-STATUS-OK (e .by .status) && x .«wants_reply») (λ q. rw q (omega arith)) (λ q. rw q (omega arith))
 
       ended : OtherFlow k h n s c (finish done t)
@@ -84,7 +84,7 @@ module _ (k h n : ℕ) (l : h < 8) (d : n ≢ 0) where
         awaits = omega (
           arith,
           e .waits (awaitedAs (otherAwaited k) h n) (λ ms w. refl),
-          sum-le (begins (awaitedAs (otherAwaited k) h n) (e .by .status)) (sentAs (otherSent k) h n) (e .sent) of-sent,
+          sum-le (begins (awaitedAs (otherAwaited k) h n) (e .by .status) (e .by .sentAt)) (sentAs (otherSent k) h n) (e .sent) of-sent,
           e .sends (sentAs (otherSent k) h n) (sent-owned (otherSent k) h n l),
         );
       }

@@ -3,3 +3,4 @@ pub mod Claim
 pub mod Room
 pub mod Modes
 pub mod Opcodes
+pub mod Timestamps

@@ -39,10 +39,10 @@ pub record Room (s : State) : Type 0 where
   -- entries plus owed room is at most 16
   pub owed : (h : ℕ) → h < 8 → roomTaken s h ≤ 16
   -- a bus result, after the copies for monitors: room for the result of a handle's transmission, and a place for its wait
-  pub result : (t : Transmission) → s .wire ≡ t ∷ [] → t .owner < 8 → (status : ℕ) (counts : Counts) → HasRoom (t .owner) (copies (inRole isMonitor) (resultCopy status counts (t .message)) s)
+  pub result : (t : Transmission) → s .wire ≡ t ∷ [] → t .owner < 8 → (status : ℕ) (counts : Counts) (ts : ℕ) → HasRoom (t .owner) (copies (inRole isMonitor) (resultCopy status counts (t .message) ts) s)
   pub wait : (t : Transmission) → s .wire ≡ t ∷ [] → t .«wants_reply» ≡ true → length (s .waits) < allWaits
   -- a message, after the copies for monitors: room for the reply of any wait
-  pub reply : (past : List Wait) (w : Wait) (rest : List Wait) → s .waits ≡ past ++ w ∷ rest → (m : Message) → HasRoom (w .owner) (copies (inRole (monitors s m)) (messageCopy m) s)
+  pub reply : (past : List Wait) (w : Wait) (rest : List Wait) → s .waits ≡ past ++ w ∷ rest → (m : Message) (ts : ℕ) → HasRoom (w .owner) (copies (inRole (monitors s m)) (messageCopy m ts) s)
   -- time passing, after the waits that end before this one
   pub timeout : (ms : ℕ) (past : List Wait) (w : Wait) (rest : List Wait) → overdue ms (s .waits) ≡ past ++ w ∷ rest → HasRoom (w .owner) (each timeOut (withWaits s (remaining ms (s .waits))) past)
   -- an unconfigure, after the transmissions, and then the waits, that end before this one

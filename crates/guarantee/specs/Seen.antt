@@ -33,8 +33,8 @@ view (callMode g m) = other
 view (callTransmit g r) = other
 view (callReceive g) = record { receives = λ h. eqb g h; shuts = λ h. false; busResult = false; ms = 0 }
 view callBusStart = other
-view (callBusResult status counts) = record { receives = λ h. false; shuts = λ h. false; busResult = true; ms = 0 }
-view (callMessage n bytes) = other
+view (callBusResult status counts ts) = record { receives = λ h. false; shuts = λ h. false; busResult = true; ms = 0 }
+view (callMessage n bytes ts) = other
 view (callTime ms) = record { receives = λ h. false; shuts = λ h. false; busResult = false; ms = ms }
 view (callConfigure x) = other
 view callUnconfigure = other

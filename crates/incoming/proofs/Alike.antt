@@ -63,8 +63,8 @@ copies-alike p e s =
 pub sends-alike : (s : State) (bytes : List ℕ) → Alike s (sends s bytes)
 sends-alike s bytes = rw (sends-queue s bytes) (record { roles = λ p. refl; settings = refl })
 
-pub replied-alike : (s : State) (t : Taken) (m : Message) → Alike s (replied s t m)
-replied-alike s t m = split (t .found) (λ e. rw e (record { roles = λ p. refl; settings = refl })) (λ e. rw e (alike-refl s))
+pub replied-alike : (s : State) (t : Taken) (m : Message) (ts : ℕ) → Alike s (replied s t m ts)
+replied-alike s t m ts = split (t .found) (λ e. rw e (record { roles = λ p. refl; settings = refl })) (λ e. rw e (alike-refl s))
 
 pub notes-alike : (s : State) (m : Message) → Alike s (notes s m)
 unfolding notes
@@ -74,5 +74,5 @@ pub answers-alike : (s : State) (b : Bool) (bytes : List ℕ) → Alike s (answe
 unfolding answers
 answers-alike s b bytes = alike-if b s (sends s bytes) (sends-alike s bytes)
 
-pub followed-alike : (s : State) (b : Bool) (t : Taken) (m : Message) → Alike s (followed s b t m)
-followed-alike s b t m = alike-if (isCopied b t) s (copies (inRole (follows s)) (messageCopy m) s) (copies-alike (inRole (follows s)) (messageCopy m) s)
+pub followed-alike : (s : State) (b : Bool) (t : Taken) (m : Message) (ts : ℕ) → Alike s (followed s b t m ts)
+followed-alike s b t m ts = alike-if (isCopied b t) s (copies (inRole (follows s)) (messageCopy m ts) s) (copies-alike (inRole (follows s)) (messageCopy m ts) s)

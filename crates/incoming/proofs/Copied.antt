@@ -17,7 +17,7 @@ use Rattle.rules.specs.Deliver.{copies, copyTo, each, handleNumbers, copyToBy, 
 use Rattle.rules.specs.Derived.{roomTaken}
 use Rattle.rules.specs.Handles.{handleAt, followerPart, inRole, isExclusiveFollower, isHere, isMonitor, someone}
 use Rattle.rules.specs.Incoming.{follows, monitors}
-use Rattle.rules.specs.State.{State}
+use Rattle.rules.specs.State.{State, withHandles, withInboxes}
 
 copyTo-waits : (e : Entry) (s : State) (h : ℕ) → copyTo e s h .waits ≡ s .waits
 unfolding copyToBy
@@ -32,6 +32,26 @@ unfolding copiesBy
 copies-waits p e s =
     each-waits (λ t g. cond (p (handleAt t g)) (copyTo e t g) t)
     (λ t g. split (p (handleAt t g)) (λ q. rw q (copyTo-waits e t g)) (λ q. rw q))
+    s
+    handleNumbers
+
+-- copies change the handles and the inboxes alone
+abbrev pub only : State → State → Type 0
+only s t = t ≡ withInboxes (withHandles s (t .handles)) (t .inboxes)
+
+copyTo-only : (e : Entry) (s : State) (h : ℕ) → only s (copyTo e s h)
+unfolding copyToBy
+copyTo-only e s h = split (eqb (roomTaken s h) 16) (λ q. rw q) (λ q. rw q)
+
+each-only : (f : State → ℕ → State) → ((s : State) (x : ℕ) → only s (f s x)) → (s : State) (xs : List ℕ) → only s (each f s xs)
+each-only f k s [] = refl
+each-only f k s (x ∷ xs) = let t = each f (f s x) xs in each-only f k (f s x) xs ∙ ap (λ (u : State). withInboxes (withHandles u (t .handles)) (t .inboxes)) (k s x)
+
+pub copies-only : (p : Handle → Bool) (e : Entry) (s : State) → only s (copies p e s)
+unfolding copiesBy
+copies-only p e s =
+    each-only (λ t g. cond (p (handleAt t g)) (copyTo e t g) t)
+    (λ t g. split (p (handleAt t g)) (λ q. rw q (copyTo-only e t g)) (λ q. rw q))
     s
     handleNumbers
 

@@ -80,8 +80,8 @@ alone false false true noted d r o e = clash e refl
 alone false false false noted d r o e = (refl, refl)
 
 -- what is to be done, done
-abbrev pub doReply : ToDo → Message → State → State
-doReply x m s = cond (not (eqb (x .rule) RULE-NONE)) (deliver (withWaits s (without (x .wait) (s .waits))) (x .owner) (entryByRule (x .rule) (x .sequence) m)) s
+abbrev pub doReply : ToDo → Message → ℕ → State → State
+doReply x m ts s = cond (not (eqb (x .rule) RULE-NONE)) (deliver (withWaits s (without (x .place) (s .waits))) (x .wait .owner) (entryByRule (x .rule) (x .wait) m ts)) s
 
 abbrev pub doNote : ToDo → Message → State → State
 doNote x m s = cond (x .notes) (withNoted s (notedAt (s .noted) m)) s
@@ -89,14 +89,14 @@ doNote x m s = cond (x .notes) (withNoted s (notedAt (s .noted) m)) s
 abbrev pub doSend : ToDo → State → State
 doSend x s = cond (x .sends) (withQueue s (put 18 (s .queue) (ownerless (x .answer)))) s
 
-abbrev pub doCopies : ToDo → Message → State → State
-doCopies x m s = copies (inRole (getsCopies (x .followers))) (messageCopy m) s
+abbrev pub doCopies : ToDo → Message → ℕ → State → State
+doCopies x m ts s = copies (inRole (getsCopies (x .followers))) (messageCopy m ts) s
 
-abbrev pub doAll : ToDo → Message → State → State
-doAll x m s = doCopies x m (doSend x (doNote x m (doReply x m s)))
+abbrev pub doAll : ToDo → Message → ℕ → State → State
+doAll x m ts s = doCopies x m ts (doSend x (doNote x m (doReply x m ts s)))
 
 -- steps 4 to 6 after the noting, in their order
-module _ (s : State) (t : Taken) (m : Message) where
+module _ (s : State) (t : Taken) (m : Message) (ts : ℕ) where
   abbrev chosen : Chosen
   chosen = chosenFor s t m
 
@@ -119,23 +119,23 @@ module _ (s : State) (t : Taken) (m : Message) where
   unfolding answers sends
   answer-step a = refl
 
-  copy-step : (a : State) → Alike s a → when (chosen .copies) (copies (inRole (getsCopies kind)) (messageCopy m)) a ≡ followed a said t m
+  copy-step : (a : State) → Alike s a → when (chosen .copies) (copies (inRole (getsCopies kind)) (messageCopy m ts)) a ≡ followed a said t m ts
   copy-step a k =
-      ap (λ (x : State). cond (chosen .copies) x a) (followers-same (someone isExclusiveFollower s) a (messageCopy m) (k .roles isExclusiveFollower))
+      ap (λ (x : State). cond (chosen .copies) x a) (followers-same (someone isExclusiveFollower s) a (messageCopy m ts) (k .roles isExclusiveFollower))
 
   abort-step : (a : State) → Alike s a → when (chosen .aborts) (λ x. putInto x abort) a ≡ refusedMessage a said t m
   unfolding sends
   abort-step a k = rw (k .roles isFollower)
 
   in-order : (b : State) → Alike s b
-      → inOrder answer abort kind (messageCopy m) (chosen .answers) (chosen .aborts) (chosen .copies) b ≡ refusedMessage (followed (answers b said bytes) said t m) said t m
+      → inOrder answer abort kind (messageCopy m ts) (chosen .answers) (chosen .aborts) (chosen .copies) b ≡ refusedMessage (followed (answers b said bytes) said t m ts) said t m
   in-order b k =
       let c = answers b said bytes in
       let kc = alike-trans s b c k (answers-alike b said bytes) in
-      let kd = alike-trans s c (followed c said t m) kc (followed-alike c said t m) in
-      ap (λ (z : State). when (chosen .aborts) (λ x. putInto x abort) (when (chosen .copies) (copies (inRole (getsCopies kind)) (messageCopy m)) z)) (answer-step b)
+      let kd = alike-trans s c (followed c said t m ts) kc (followed-alike c said t m ts) in
+      ap (λ (z : State). when (chosen .aborts) (λ x. putInto x abort) (when (chosen .copies) (copies (inRole (getsCopies kind)) (messageCopy m ts)) z)) (answer-step b)
       ∙ ap (λ (z : State). when (chosen .aborts) (λ x. putInto x abort) z) (copy-step c kc)
-      ∙ abort-step (followed c said t m) kd
+      ∙ abort-step (followed c said t m ts) kd
 
   -- with a Feature Abort there is no answer, and no follower
   abort-alone : chosen .aborts ≡ true → (chosen .answers ≡ false) × (someone isFollower s ≡ false)
@@ -146,7 +146,7 @@ module _ (s : State) (t : Taken) (m : Message) where
   answer-alone e = (split (chosen .aborts) (λ q. clash e (abort-alone q .0)) (λ q. q), rw e)
 
   -- the noting and the reply change neither handles nor capabilities
-  replied-kept : (replied s t m .handles ≡ s .handles) × (replied s t m .capabilities ≡ s .capabilities)
+  replied-kept : (replied s t m ts .handles ≡ s .handles) × (replied s t m ts .capabilities ≡ s .capabilities)
   replied-kept = split (t .found) (λ q. rw q (refl, refl)) (λ q. rw q (refl, refl))
 
   noted-kept : (a : State) → (notes a m .handles ≡ a .handles) × (notes a m .capabilities ≡ a .capabilities)
@@ -154,10 +154,10 @@ module _ (s : State) (t : Taken) (m : Message) where
   noted-kept a = split (isNoted m) (λ q. rw q (refl, refl)) (λ q. rw q (refl, refl))
 
   sent-steps : (b d : State) → Alike s b → b .handles ≡ s .handles
-      → d ≡ sentFirst answer abort kind (messageCopy m) (chosen .answers) (chosen .aborts) b
-      → copies (inRole (getsCopies (receiversOf (chosen .copies) (s .handles) kind))) (messageCopy m) d ≡ refusedMessage (followed (answers b said bytes) said t m) said t m
+      → d ≡ sentFirst answer abort kind (messageCopy m ts) (chosen .answers) (chosen .aborts) b
+      → copies (inRole (getsCopies (receiversOf (chosen .copies) (s .handles) kind))) (messageCopy m ts) d ≡ refusedMessage (followed (answers b said bytes) said t m ts) said t m
   sent-steps b d k h q =
-      let e = messageCopy m in
+      let e = messageCopy m ts in
       let hd : d .handles ≡ s .handles = ap (λ (z : State). z .handles) q ∙ sent-handles answer abort kind e (chosen .answers) (chosen .aborts) b ∙ h in
       ap (λ (l : List Handle). copies (inRole (getsCopies (receiversOf (chosen .copies) l kind))) e d) (sym hd)
       ∙ receivers-copies (chosen .copies) kind e d
@@ -166,8 +166,8 @@ module _ (s : State) (t : Taken) (m : Message) where
       ∙ in-order b k
 
 -- the wait that ends is one that the message answers, and so the rule tells the entry
-reply-step : (s : State) (m : Message) → doReply (toDoOf s true m) m s ≡ replied s (takenAt (first (answeredBy m) (s .waits)) (s .waits)) m
-reply-step s m =
+reply-step : (s : State) (m : Message) (ts : ℕ) → doReply (toDoOf s true m) m ts s ≡ replied s (takenAt (first (answeredBy m) (s .waits)) (s .waits)) m ts
+reply-step s m ts =
     let t = takenAt (first (answeredBy m) (s .waits)) (s .waits) in
     let found = match-found m (s .waits) in
     split (t .found)
@@ -176,19 +176,19 @@ reply-step s m =
     rw (found, q, rule-abort m (t .wait) met))
     (λ q. rw (found, q))
 
-pub done-all : (s : State) (further : Bool) (m : Message) → doAll (toDoOf s further m) m s ≡ cond further (handled s (isAnswered s m) (answerFor (s .settings) m) (matchTaken m (s .waits)) m) s
+pub done-all : (s : State) (further : Bool) (m : Message) (ts : ℕ) → doAll (toDoOf s further m) m ts s ≡ cond further (handled s (isAnswered s m) (answerFor (s .settings) m) (matchTaken m (s .waits)) m ts) s
 unfolding matchTaken notes
-done-all s false m = sym (nobody-copies NOBODY (messageCopy m) s refl)
-done-all s true m =
+done-all s false m ts = sym (nobody-copies NOBODY (messageCopy m ts) s refl)
+done-all s true m ts =
     let t = takenAt (first (answeredBy m) (s .waits)) (s .waits) in
-    let a = replied s t m in
+    let a = replied s t m ts in
     let b = notes a m in
-    let k = alike-trans s a b (replied-alike s t m) (notes-alike a m) in
-    let h = noted-kept s t m a .0 ∙ replied-kept s t m .0 in
-    let c = noted-kept s t m a .1 ∙ replied-kept s t m .1 in
+    let k = alike-trans s a b (replied-alike s t m ts) (notes-alike a m) in
+    let h = noted-kept s t m ts a .0 ∙ replied-kept s t m ts .0 in
+    let c = noted-kept s t m ts a .1 ∙ replied-kept s t m ts .1 in
     let x = toDoOf s true m in
-    ap (λ (z : State). doCopies x m (doSend x (doNote x m z))) (reply-step s m)
-    ∙ sent-steps s t m b (doSend x b) k h (rw c)
+    ap (λ (z : State). doCopies x m ts (doSend x (doNote x m z))) (reply-step s m ts)
+    ∙ sent-steps s t m ts b (doSend x b) k h (rw c)
 
 -- steps 1 and 2
 not-stops : (a b c : Bool) → (a && not b && c) ≡ not (not a || b || not c)
@@ -200,12 +200,12 @@ not-stops false b c = refl
 pub goes-on : (s c : State) (m : Message) → c .settings ≡ s .settings → goesOn c m ≡ not (stops s m)
 goes-on s c m q = rw q (not-stops (isConfigured s) (eqb (m .length) 1) (isHere s (destination (m .bytes))))
 
-pub heard-all : (s c r : State) (m : Message) → c ≡ copies (inRole (monitors s m)) (messageCopy m) s
-    → r ≡ cond (goesOn c m) (handled c (isAnswered c m) (answerFor (c .settings) m) (matchTaken m (c .waits)) m) c → r ≡ heard s m
+pub heard-all : (s c r : State) (m : Message) (ts : ℕ) → c ≡ copies (inRole (monitors s m)) (messageCopy m ts) s
+    → r ≡ cond (goesOn c m) (handled c (isAnswered c m) (answerFor (c .settings) m) (matchTaken m (c .waits)) m ts) c → r ≡ heard s m ts
 unfolding heardWith
-heard-all s c r m q e =
-    let k = copies-alike (inRole (monitors s m)) (messageCopy m) s in
-    let w = copies-waits (inRole (monitors s m)) (messageCopy m) s in
+heard-all s c r m ts q e =
+    let k = copies-alike (inRole (monitors s m)) (messageCopy m ts) s in
+    let w = copies-waits (inRole (monitors s m)) (messageCopy m ts) s in
     let g = goes-on s c m (ap (λ (z : State). z .settings) q ∙ k .settings) in
     let x : c .settings ≡ s .settings = ap (λ (z : State). z .settings) q ∙ k .settings in
     let y : isAnswered c m ≡ isAnswered s m = rw (ap (someone isPassthrough) q ∙ k .roles isPassthrough, x) in

@@ -15,6 +15,7 @@ use Rattle.message.specs.Rule.{RULE-FEATURE-ABORT}
 use Rattle.message.specs.declared.Message.{Message}
 use Rattle.rules.specs.Handles.{inRole, isConfigured, isHere}
 use Rattle.rules.specs.State.{State}
+use Rattle.wait.specs.declared.Wait.{Wait}
 
 -- the monitors that see a message, by whether it goes to 15 or an own address
 abbrev pub monitorKind : Bool → ℕ
@@ -29,8 +30,8 @@ abbrev pub receiversOf : Bool → List Handle → ℕ → ℕ
 receiversOf copied hs kind = cond (copied && any (inRole (getsCopies kind)) hs) kind NOBODY
 
 -- `rules: replyEntry`, by the rule of the match
-abbrev pub entryByRule : ℕ → ℕ → Message → Entry
-entryByRule rule number m = cond (eqb rule RULE-FEATURE-ABORT) (featureAbortReply number m) (reply number m)
+abbrev pub entryByRule : ℕ → Wait → Message → ℕ → Entry
+entryByRule rule w m ts = cond (eqb rule RULE-FEATURE-ABORT) (featureAbortReply (w .sequence) m (w .«tx_ts») ts) (reply (w .sequence) m (w .«tx_ts») ts)
 
 -- not `rules: stops`
 abbrev pub goesOn : State → Message → Bool

@@ -1,4 +1,4 @@
-// A message from the wire, in six steps, and for the tracker.
+// A message from the wire, in six steps, for the tracker and for the clock.
 ghost use mathlib.Core.Bool.{cond};
 ghost use mathlib.Core.Logic.{_≢_};
 ghost use mathlib.Core.Path.{_≡_};
@@ -7,7 +7,7 @@ ghost use Rattle.rules.specs.Handles.{isHere};
 ghost use Rattle.rules.specs.Incoming.{incomingRefusal};
 ghost use Rattle.rules.specs.Tracker.{activeAfterMessage, doMessage};
 ghost use Rattle.incoming.specs.Steps.{monitorKind, followerKind, goesOn};
-ghost use Rattle.incoming.specs.Work.{toDoOf};
+ghost use Rattle.incoming.specs.Work.{arrivalOf, toDoOf};
 
 mod step;
 
@@ -25,24 +25,38 @@ use message::reply::RULE_NONE;
 use parts::Done;
 use parts::Parts;
 use parts::check;
+use parts::clock_errno;
 use transmission::Transmission;
+use wait::Wait;
+
+// A message as it comes: its errno, the active address and the clock afterwards, and which monitors get a copy.
+struct Arrival {
+    errno: u32,
+    message: Message,
+    active: u16,
+    clock: u64,
+    monitors: u8,
+}
 
 // What is to be done in steps 3 to 6: by which rule the wait at a place ends with a reply, if any does, whether an address is noted, whether the core sends a message, and who gets copies.
 struct ToDo {
     rule: u8,
-    wait: usize,
-    owner: u8,
-    sequence: u32,
+    place: usize,
+    wait: Wait,
     notes: bool,
     sends: bool,
     answer: Message,
     followers: u8,
 }
 
-fn message_errno(length: u8) -> u32
-    ensures { λ r. ⌜ r ≡ incomingRefusal length ⌝ }
+fn message_errno(clock: u64, length: u8, ts: u64) -> u32
+    ensures { λ r. ⌜ r ≡ incomingRefusal clock length ts ⌝ }
 {
-    check(!((1 <= length) & (length <= 16)), EINVAL, 0)
+    check(
+        !((1 <= length) & (length <= 16)),
+        EINVAL,
+        clock_errno(clock, ts),
+    )
 }
 
 fn is_here(parts: Parts, address: u8) -> bool
@@ -89,9 +103,8 @@ fn later_steps(parts: Parts, further: bool, message: Message) -> ToDo
     let chosen = steps::choose(handles, work, found, wait.to_followers, message);
     ToDo {
         rule: step::rule(further, oldest.rule),
-        wait: oldest.place,
-        owner: wait.owner,
-        sequence: wait.sequence,
+        place: oldest.place,
+        wait: wait,
         notes: further & chosen.notes,
         sends: further & (chosen.answers | chosen.aborts) & parts.can_transmit,
         answer: step::sent(chosen.aborts, work.answer, message),
@@ -114,26 +127,47 @@ fn active_after(parts: Parts, accepted: bool, message: Message) -> u16
     }
 }
 
-pub fn message(mut parts: Parts, length: u8, bytes: [u8; 16]) -> Done
-    ensures { λ r. ⌜ doneOf r ≡ doMessage (stateOf parts) length bytes ⌝ }
-    ensures { λ r. ⌜ (r .errno ≢ 0 → r .parts ≡ parts) ⌝ }
+// The clock afterwards: an accepted message moves it.
+fn clock_after(clock: u64, accepted: bool, ts: u64) -> u64
+    ensures { λ r. ⌜ r ≡ cond accepted ts clock ⌝ }
 {
-    let errno = message_errno(length);
+    if accepted { ts } else { clock }
+}
+
+// The checks and step 1.
+fn arrived(parts: Parts, length: u8, bytes: [u8; 16], ts: u64) -> Arrival
+    ensures { λ r. ⌜ r ≡ arrivalOf (stateOf parts) length bytes ts ⌝ }
+{
+    let errno = message_errno(parts.clock, length, ts);
     let message = Message::new(length, bytes);
-    let active = active_after(parts, errno == 0, message);
     let handles = parts.handles;
     let here = is_here(parts, message.destination());
-    let monitors = step::receivers(errno == 0, handles, monitor_kind(here));
-    if monitors != NOBODY {
-        parts = copies::copies(parts, monitors, Entry::message_copy(message));
+    Arrival {
+        errno: errno,
+        message: message,
+        active: active_after(parts, errno == 0, message),
+        clock: clock_after(parts.clock, errno == 0, ts),
+        monitors: step::receivers(errno == 0, handles, monitor_kind(here)),
     }
-    let to_do = later_steps(parts, (errno == 0) & goes_on(parts, message), message);
+}
+
+// Of the followers' copies what changed is stored, and not the parts as a whole, which would be moved once more.
+pub fn message(mut parts: Parts, length: u8, bytes: [u8; 16], ts: u64) -> Done
+    ensures { λ r. ⌜ doneOf r ≡ doMessage (stateOf parts) length bytes ts ⌝ }
+    ensures { λ r. ⌜ (r .errno ≢ 0 → r .parts ≡ parts) ⌝ }
+{
+    let came = arrived(parts, length, bytes, ts);
+    let message = came.message;
+    if came.monitors != NOBODY {
+        parts = copies::copies(parts, came.monitors, Entry::message_copy(message, ts));
+    }
+    let to_do = later_steps(parts, (came.errno == 0) & goes_on(parts, message), message);
     if to_do.rule != RULE_NONE {
-        parts.waits = parts.waits.without(to_do.wait);
-        let n = count_at(parts.counts, to_do.owner);
-        let h = to_do.owner as usize;
+        parts.waits = parts.waits.without(to_do.place);
+        let n = count_at(parts.counts, to_do.wait.owner);
+        let h = to_do.wait.owner as usize;
         if (h < 8) & (n < 16) {
-            parts.entries[16 * h + n] = step::reply_entry(to_do.rule, to_do.sequence, message);
+            parts.entries[16 * h + n] = step::reply_entry(to_do.rule, to_do.wait, message, ts);
             parts.counts[h] = n + 1;
         }
     }
@@ -144,11 +178,18 @@ pub fn message(mut parts: Parts, length: u8, bytes: [u8; 16]) -> Done
         parts.queue = parts.queue.put(Transmission::ownerless(to_do.answer));
     }
     if to_do.followers != NOBODY {
-        parts = copies::copies(parts, to_do.followers, Entry::message_copy(message));
+        let copied = copies::copies(parts, to_do.followers, Entry::message_copy(message, ts));
+        let handles = copied.handles;
+        let counts = copied.counts;
+        let entries = copied.entries;
+        parts.handles = handles;
+        parts.counts = counts;
+        parts.entries = entries;
     }
-    parts.active = active;
+    parts.active = came.active;
+    parts.clock = came.clock;
     Done {
         parts: parts,
-        errno: errno,
+        errno: came.errno,
     }
 }

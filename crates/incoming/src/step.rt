@@ -13,6 +13,7 @@ use handles::Handles;
 use message::Message;
 use message::reply::RULE_FEATURE_ABORT;
 use message::reply::RULE_NONE;
+use wait::Wait;
 
 // The rule of a match, if the message goes further.
 pub fn rule(further: bool, rule: u8) -> u8
@@ -22,13 +23,13 @@ pub fn rule(further: bool, rule: u8) -> u8
 }
 
 // A Feature Abort is a reply too, with a bit of its own in the status.
-pub fn reply_entry(rule: u8, sequence: u32, message: Message) -> Entry
-    ensures { λ r. ⌜ r ≡ entryByRule rule sequence message ⌝ }
+pub fn reply_entry(rule: u8, wait: Wait, message: Message, ts: u64) -> Entry
+    ensures { λ r. ⌜ r ≡ entryByRule rule wait message ts ⌝ }
 {
     if rule == RULE_FEATURE_ABORT {
-        Entry::feature_abort_reply(sequence, message)
+        Entry::feature_abort_reply(wait.sequence, message, wait.tx_ts, ts)
     } else {
-        Entry::reply(sequence, message)
+        Entry::reply(wait.sequence, message, wait.tx_ts, ts)
     }
 }
 

@@ -1,6 +1,10 @@
-// The known answers of document 01, and those of the later requests up to W-207 that have some, asked of the code: one line for each case with what it gave.
+// The known answers of document 01, and those of the later requests up to W-208 that have some, asked of the code: one line for each case with what it gave.
 use adapter::Adapter;
+use adapter::Done;
 use constants::CEC_MODE_EXCL_INITIATOR;
+use constants::CEC_MODE_FOLLOWER;
+use constants::CEC_MODE_INITIATOR;
+use constants::CEC_MODE_MONITOR;
 use constants::CEC_OP_CEC_VERSION_1_4;
 use constants::CEC_OP_CEC_VERSION_2_0;
 use constants::CEC_TX_STATUS_OK;
@@ -11,6 +15,13 @@ use request::Request;
 use settings::Settings;
 use waits::Waits;
 use wire::Wire;
+
+// Times in nanoseconds: when a message had gone out, the nanosecond before, and when one had come after it.
+const SENT_AT: u64 = 5000000000;
+
+const JUST_BEFORE: u64 = 4999999999;
+
+const CAME_AT: u64 = 7000000000;
 
 fn say(text: &[u8], number: u32) {
     io::write_all(1, text);
@@ -102,7 +113,7 @@ fn sending(opcode: u8, reply: u8) -> Adapter {
 // They were sent, a reply is wanted, and the result was received.
 fn waiting(opcode: u8, reply: u8) -> Adapter {
     sending(opcode, reply)
-        .bus_result(CEC_TX_STATUS_OK, Counts::none())
+        .bus_result(CEC_TX_STATUS_OK, Counts::none(), SENT_AT)
         .adapter
         .receive(0)
         .adapter
@@ -120,7 +131,7 @@ fn three(first: u8, second: u8, third: u8) -> [u8; 16] {
 fn asked(length: u8, first: u8, second: u8, third: u8) -> Given {
     let bytes = three(first, second, third);
     let answer = waiting(0x8F, 0x90)
-        .received(length, bytes)
+        .received(length, bytes, CAME_AT)
         .adapter
         .receive(0);
     Given {
@@ -131,7 +142,9 @@ fn asked(length: u8, first: u8, second: u8, third: u8) -> Given {
 
 // The errno of a result of this status.
 fn result(status: u8) -> u32 {
-    sending(0x8F, 0).bus_result(status, Counts::none()).errno
+    sending(0x8F, 0)
+        .bus_result(status, Counts::none(), SENT_AT)
+        .errno
 }
 
 // The errno of a message of this length: a transmit, and one from the wire.
@@ -142,7 +155,7 @@ fn sent(length: u8) -> u32 {
 }
 
 fn came(length: u8) -> u32 {
-    bench(true).received(length, [0x0F; 16]).errno
+    bench(true).received(length, [0x0F; 16], CAME_AT).errno
 }
 
 fn one(adapter: Adapter, handle: u8) -> Adapter {
@@ -175,7 +188,7 @@ fn core_asked(adapter: Adapter, opcode: u8) -> Adapter {
     let mut bytes = [0; 16];
     bytes[0] = 0x04;
     bytes[1] = opcode;
-    adapter.received(2, bytes).adapter
+    adapter.received(2, bytes, CAME_AT).adapter
 }
 
 // The CEC version, which the core answers: one more in the queue, if there is room.
@@ -227,7 +240,7 @@ fn told(adapter: Adapter, header: u8, length: u8, opcode: u8, first: u8, second:
     bytes[1] = opcode;
     bytes[2] = first;
     bytes[4] = second;
-    adapter.received(length, bytes).adapter
+    adapter.received(length, bytes, CAME_AT).adapter
 }
 
 // The active address after such a message, where 0x1000 was active before (W-205).
@@ -273,7 +286,7 @@ fn say_reply(text: &[u8], adapter: Adapter) {
 // 40 C0 wants C1, and some bytes came.
 fn arc_asked(length: u8, second: u8, third: u8) -> Adapter {
     waiting(0xC0, 0xC1)
-        .received(length, three(0x04, second, third))
+        .received(length, three(0x04, second, third), CAME_AT)
         .adapter
 }
 
@@ -281,6 +294,42 @@ fn arc_asked(length: u8, second: u8, third: u8) -> Adapter {
 fn arc_rule(length: u8, second: u8, third: u8) -> u32 {
     let sent = Message::new(2, three(0x40, 0xC0, 0));
     Message::new(length, three(0x04, second, third)).reply_rule(sent, 0xC1) as u32
+}
+
+// What handle 0 received, with its times (W-208).
+fn say_times(text: &[u8], adapter: Adapter) {
+    let entry = adapter.receive(0).entry;
+    io::write_all(1, text);
+    say(b": number ", entry.sequence);
+    say(b", tx_status ", entry.tx_status as u32);
+    say(b", rx_status ", entry.rx_status as u32);
+    io::write_all(1, b", tx_ts ");
+    io::print_decimal(1, entry.tx_ts);
+    io::write_all(1, b", rx_ts ");
+    io::print_decimal(1, entry.rx_ts);
+    io::write_all(1, b"\n");
+}
+
+// The message on the wire has gone out.
+fn ended(adapter: Adapter, ts: u64) -> Done {
+    adapter.bus_result(CEC_TX_STATUS_OK, Counts::none(), ts)
+}
+
+// The TV says 90 to all.
+fn all_told(adapter: Adapter, ts: u64) -> Done {
+    adapter.received(3, three(0x0F, 0x90, 0x00), ts)
+}
+
+// A result before the last time, and one at it.
+fn say_results(text: &[u8], adapter: Adapter) {
+    say(text, ended(adapter, JUST_BEFORE).errno);
+    line(b", at its time: errno ", ended(adapter, SENT_AT).errno);
+}
+
+// The same of a message.
+fn say_messages(text: &[u8], adapter: Adapter) {
+    say(text, all_told(adapter, JUST_BEFORE).errno);
+    line(b", at its time: errno ", all_told(adapter, SENT_AT).errno);
 }
 
 fn say_six(bytes: [u8; 16]) {
@@ -415,6 +464,94 @@ fn say_picture() {
     say_way(0x2010, 0x2130);
 }
 
+fn say_timestamps() {
+    let on_wire = sending(0x8F, 0);
+    let monitored = on_wire.set_mode(0, CEC_MODE_MONITOR).adapter;
+    let followed = on_wire
+        .set_mode(0, CEC_MODE_FOLLOWER | CEC_MODE_INITIATOR)
+        .adapter;
+    let asking = waiting(0x8F, 0x90);
+    let sent_since = ended(one(asking, 0).bus_start().adapter, CAME_AT)
+        .adapter
+        .receive(0)
+        .adapter;
+    say_times(b"result", ended(on_wire, SENT_AT).adapter);
+    say_times(
+        b"monitor's copy of a result",
+        ended(monitored, SENT_AT).adapter,
+    );
+    say_times(
+        b"follower's copy of a message",
+        all_told(followed, CAME_AT).adapter,
+    );
+    say_times(
+        b"reply after a later result",
+        all_told(sent_since, CAME_AT).adapter,
+    );
+    say_times(b"Feature Abort reply", arc_asked(3, 0x00, 0xC0));
+    say_times(b"timeout", asking.time_passed(1000).adapter);
+    say_times(b"aborted wait", asking.unconfigure().adapter);
+    say_times(
+        b"result of unconfigure",
+        all_told(on_wire, SENT_AT).adapter.unconfigure().adapter,
+    );
+}
+
+// Every result and every message that is taken sets the last time, and unconfigure keeps it.
+fn say_clock() {
+    let after_result = one(waiting(0x8F, 0), 0).bus_start().adapter;
+    let after_message = all_told(sending(0x8F, 0), SENT_AT).adapter;
+    say_results(b"result 1 ns before the last result: errno ", after_result);
+    say_messages(b"message 1 ns before the last result: errno ", after_result);
+    say_results(
+        b"result 1 ns before the last message: errno ",
+        after_message,
+    );
+    say_messages(
+        b"message 1 ns before the last message: errno ",
+        after_message,
+    );
+    say_messages(
+        b"message 1 ns before a poll: errno ",
+        bench(true).received(1, [0x04; 16], SENT_AT).adapter,
+    );
+    say_messages(
+        b"message 1 ns before one to 5: errno ",
+        bench(true).received(2, [0x05; 16], SENT_AT).adapter,
+    );
+    say_messages(
+        b"message 1 ns before one while unconfigured: errno ",
+        all_told(Adapter::fresh(true, true), SENT_AT).adapter,
+    );
+    say_messages(
+        b"message 1 ns before the last, unconfigured since: errno ",
+        after_message.unconfigure().adapter,
+    );
+}
+
+// What is refused leaves the last time as it was, and the message on the wire.
+fn say_refused() {
+    let after_message = all_told(sending(0x8F, 0), SENT_AT).adapter;
+    let too_early = ended(after_message, JUST_BEFORE).adapter;
+    let not_final = after_message
+        .bus_result(0x02, Counts::none(), CAME_AT)
+        .adapter;
+    let too_long = after_message.received(17, [0x0F; 16], CAME_AT).adapter;
+    line(
+        b"result refused for its time, again: errno ",
+        ended(too_early, JUST_BEFORE).errno,
+    );
+    line(b"same, bus start: errno ", too_early.bus_start().errno);
+    line(
+        b"result 0x02 refused, one before it: errno ",
+        ended(not_final, SENT_AT).errno,
+    );
+    line(
+        b"message of 17 bytes refused, one before it: errno ",
+        all_told(too_long, SENT_AT).errno,
+    );
+}
+
 fn main() {
     say_modes();
     say(b"poll 44: errno ", poll().errno);
@@ -430,4 +567,7 @@ fn main() {
     say_masks();
     say_picture();
     say_rules();
+    say_timestamps();
+    say_clock();
+    say_refused();
 }

@@ -48,6 +48,10 @@ module _ (f : ℕ → ℕ) where
   upto-none zero e = refl
   upto-none (suc k) e = omega (arith, upto-none k (λ g l. e g (omega arith)), e k (omega arith))
 
+  pub upto-most : (h k : ℕ) → h < k → f h ≤ upto f k
+  upto-most h zero l = absurd (omega arith)
+  upto-most h (suc k) l = split (eqb h k) (λ q. rw (eqb-true h k q) (omega arith)) (λ q. omega (arith, upto-most h k (omega (arith, eqb-false h k q))))
+
   pub upto-one : (h k : ℕ) → h < k → ((g : ℕ) → g < k → g ≢ h → f g ≡ 0) → upto f k ≡ f h
   upto-one h zero l e = absurd (omega arith)
   upto-one h (suc k) l e =

@@ -7,6 +7,7 @@ use Rattle.log.specs.Record.{bodyLength, callOf}
 use Rattle.log.specs.Session.{freshSession, bad, played, grown, next, fed, finished}
 use Rattle.log.specs.Text.{decimal}
 use Rattle.message.specs.Message.{message}
+use Rattle.rules.proofs.KnownAnswers.{every-rule}
 use Rattle.rules.specs.BusResult.{doBusResult, isFinal, keptCounts}
 use Rattle.rules.specs.BusStart.{doBusStart}
 use Rattle.rules.specs.Call.{unless, check}
@@ -49,13 +50,21 @@ pub low-byte-first : Prints (0x01 ∷ 0x01 ∷ 0x03 ∷ 0x00 ∷ 0x11 ∷ 0x00 �
 unfolding bodyLength callOf played grown next finished decimal fresh unless check doOpen doMode
 low-byte-first = refl
 
--- open, configure, transmit 40 8F, start, a result with status 01, receive: `5 0 1 1 0 2`
+-- a poll to 15, with a time of 8 bytes: 2 to the 56th, and then 255, which is refused: `9 0`, `9 22`
+abbrev polled : List ℕ → List ℕ
+polled time = (0x09 ∷ 0x01 ∷ 0x0F ∷ replicate 15 0) ++ time
+
+pub earlier-time : Prints (polled (replicate 7 0 ++ (0x01 ∷ [])) ++ polled (0xFF ∷ replicate 7 0)) (57 ∷ 32 ∷ 48 ∷ 10 ∷ 57 ∷ 32 ∷ 50 ∷ 50 ∷ 10 ∷ [])
+unfolding every-rule bodyLength callOf played grown next finished decimal
+earlier-time = refl
+
+-- open, configure, transmit 40 8F, start, a result with status 01 at time 0, receive: `5 0 1 1 0 2`
 abbrev session : List ℕ
 session =
     (0x01 ∷ 0x01 ∷ [])
     ++ ((0x0A ∷ 0x00 ∷ 0x10 ∷ 0x10 ∷ 0x00 ∷ 0x05 ∷ 0x04 ∷ 0xB0 ∷ 0xA0 ∷ 0x00 ∷ 0x01 ∷ 0x42 ∷ []) ++ (replicate 16 0
     ++ ((0x04 ∷ 0x00 ∷ 0x02 ∷ 0x40 ∷ 0x8F ∷ []) ++ (replicate 23 0
-    ++ (0x06 ∷ 0x07 ∷ 0x01 ∷ 0x00 ∷ 0x00 ∷ 0x00 ∷ 0x00 ∷ 0x05 ∷ 0x00 ∷ [])))))
+    ++ ((0x06 ∷ 0x07 ∷ 0x01 ∷ []) ++ (replicate 12 0 ++ (0x05 ∷ 0x00 ∷ [])))))))
 
 abbrev lines : List ℕ
 lines =

@@ -54,10 +54,10 @@ by-kind kind r n h =
     rw (e, a, byte-held r n 2 (omega arith), bytes-held r n 3 16 (omega arith), byte-held r n 19 (omega arith), number-held r n 20 4 (omega arith), number-held r n 24 4 (omega arith)))
     (λ e. rw e (split (eqb kind 5) (λ e. rw (e, byte-held r n 1 (omega (arith, length-of kind 5 e))))
     (λ e. rw e (split (eqb kind 6) (λ e. rw e)
-    (λ e. rw e (split (eqb kind 7) (λ e. let m : 6 ≤ n = omega (arith, length-of kind 7 e) in
-    rw (e, byte-held r n 1 (omega arith), byte-held r n 2 (omega arith), byte-held r n 3 (omega arith), byte-held r n 4 (omega arith), byte-held r n 5 (omega arith)))
+    (λ e. rw e (split (eqb kind 7) (λ e. let m : 14 ≤ n = omega (arith, length-of kind 7 e) in
+    rw (e, byte-held r n 1 (omega arith), byte-held r n 2 (omega arith), byte-held r n 3 (omega arith), byte-held r n 4 (omega arith), byte-held r n 5 (omega arith), number-held r n 6 8 (omega arith)))
     (λ e. rw e (split (eqb kind 8) (λ e. rw (e, number-held r n 1 4 (omega (arith, length-of kind 8 e))))
-    (λ e. rw e (split (eqb kind 9) (λ e. let m : 18 ≤ n = omega (arith, length-of kind 9 e) in rw (e, byte-held r n 1 (omega arith), bytes-held r n 2 16 (omega arith)))
+    (λ e. rw e (split (eqb kind 9) (λ e. let m : 26 ≤ n = omega (arith, length-of kind 9 e) in rw (e, byte-held r n 1 (omega arith), bytes-held r n 2 16 (omega arith), number-held r n 18 8 (omega arith)))
     (λ e. rw e (split (eqb kind 10) (λ e. let m : 28 ≤ n = omega (arith, length-of kind 10 e) in
     let a = number-held r n 1 2 (omega arith) in
     let b = number-held r n 3 2 (omega arith) in

@@ -14,9 +14,9 @@ use Rattle.settings.specs.declared.Settings.{Settings}
 abbrev pub isKind : ℕ → Bool
 isKind kind = leb 1 kind && leb kind 11
 
--- the lengths of the bodies by kind; there is no kind 0
+-- the lengths of the bodies by kind; there is no kind 0. W-208: "Replay kinds 07 and 09 grow by 8 bytes at the end", the time
 abbrev pub bodyLengths : List ℕ
-bodyLengths = 0 ∷ 1 ∷ 1 ∷ 5 ∷ 27 ∷ 1 ∷ 0 ∷ 5 ∷ 4 ∷ 17 ∷ 27 ∷ 0 ∷ []
+bodyLengths = 0 ∷ 1 ∷ 1 ∷ 5 ∷ 27 ∷ 1 ∷ 0 ∷ 13 ∷ 4 ∷ 25 ∷ 27 ∷ 0 ∷ []
 
 unfoldable pub bodyLength : ℕ → ℕ
 bodyLength kind = getD bodyLengths kind 0
@@ -52,16 +52,16 @@ requestIn r = record { length = byteAt r 2; bytes = take 16 (drop 3 r); reply = 
 abbrev pub transmitOf : List ℕ → Call
 transmitOf r = callTransmit (byteAt r 1) (requestIn r)
 
--- four counts, after the status
+-- four counts, after the status, and then the time
 abbrev pub countsIn : List ℕ → Counts
 countsIn r = record { «arb_lost» = byteAt r 2; nack = byteAt r 3; «low_drive» = byteAt r 4; error = byteAt r 5 }
 
 abbrev pub resultOf : List ℕ → Call
-resultOf r = callBusResult (byteAt r 1) (countsIn r)
+resultOf r = callBusResult (byteAt r 1) (countsIn r) (numberAt r 6 8)
 
--- length, 16 bytes
+-- length, 16 bytes, time
 abbrev pub incomingOf : List ℕ → Call
-incomingOf r = callMessage (byteAt r 1) (take 16 (drop 2 r))
+incomingOf r = callMessage (byteAt r 1) (take 16 (drop 2 r)) (numberAt r 18 8)
 
 -- address 2, mask 2, version, type, vendor 3, name length, 14 bytes; W-203: "Replay kind 0A grows by these three bytes at the end"
 abbrev pub settingsIn : List ℕ → Settings

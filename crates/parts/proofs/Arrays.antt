@@ -11,7 +11,7 @@ use Rattle.entry.specs.declared.Entry.{Entry}
 use Rattle.inbox.proofs.Arrays.{Long, hasRoom, left-out, store-long, stored}
 use Rattle.lists.specs.Elements.{unmapped}
 use Rattle.parts.proofs.Parts as the
-use Rattle.parts.specs.Parts.{stateOf}
+use Rattle.parts.specs.Parts.{changed, stateOf}
 use Rattle.parts.specs.declared.Parts.{Parts}
 use Rattle.rules.specs.Deliver.{deliver}
 use Rattle.rules.specs.State.{withInboxes}
@@ -21,24 +21,14 @@ LongParts p = Long (p .entries) (p .counts)
 
 -- owning the parts tells so
 pub parts-long : (p : Parts) (vs : List Val) → Is the.the-row p vs → LongParts p
-parts-long p vs q = record { entries = unmapped _ (p .entries) 128 (q .1 .1 .1 .1 .1 .1 .1 .1 .1 .1 .1 .1 .1 .0 .1 .0 .1); counts = unmapped _ (p .counts) 8 (q .1 .1 .0 .1 .0 .1) }
+parts-long p vs q = record { entries = unmapped _ (p .entries) 128 (q .1 .1 .1 .1 .1 .1 .1 .1 .1 .1 .1 .1 .1 .1 .0 .1 .0 .1); counts = unmapped _ (p .counts) 8 (q .1 .1 .0 .1 .0 .1) }
 
--- the parts with other arrays of the inboxes
+-- the parts with other arrays of the inboxes alone; with another active address and another clock alone
 abbrev pub withArrays : Parts → List Entry → List ℕ → Parts
-withArrays p es cs = record {
-  counts = cs;
-  «can_transmit» = p .«can_transmit»;
-  «can_monitor_all» = p .«can_monitor_all»;
-  last = p .last;
-  settings = p .settings;
-  noted = p .noted;
-  active = p .active;
-  handles = p .handles;
-  wire = p .wire;
-  queue = p .queue;
-  waits = p .waits;
-  entries = es;
-}
+withArrays p es cs = changed p (p .handles) cs es (p .active) (p .clock)
+
+abbrev pub movedParts : Parts → ℕ → ℕ → Parts
+movedParts p active clock = changed p (p .handles) (p .counts) (p .entries) active clock
 
 -- q is p with an entry delivered
 pub record Delivered (p : Parts) (h : ℕ) (e : Entry) (q : Parts) : Type 0 where

@@ -10,4 +10,4 @@ use Rattle.parts.proofs.Parts as the
 use Rattle.parts.specs.declared.Parts.{Parts}
 
 pub noted-long : (x : Parts) (vs : List Val) → Is the.the-row x vs → length (x .noted) ≡ 15
-noted-long x vs p = unmapped _ (x .noted) 15 (p .1 .1 .1 .1 .1 .1 .1 .0 .1 .0 .1)
+noted-long x vs p = unmapped _ (x .noted) 15 (p .1 .1 .1 .1 .1 .1 .1 .1 .0 .1 .0 .1)

@@ -2,8 +2,11 @@
 -- Assumes nothing.
 use Prim.Native.Nat.{ℕ}
 use mathlib.Core.Bool.{cond}
+use mathlib.Core.List.{List}
 use lib.Dec.{eqb}
+use Rattle.entry.specs.declared.Entry.{Entry}
 use Rattle.handles.specs.Roles.{handlesOf}
+use Rattle.handles.specs.declared.Handles.{Handles}
 use Rattle.inbox.specs.Inboxes.{inboxesOf}
 use Rattle.inbox.specs.declared.Inboxes.{Inboxes}
 use Rattle.parts.specs.declared.Done.{Done}
@@ -30,6 +33,25 @@ stateOf p = record {
   settings = p .settings;
   noted = p .noted;
   active = p .active;
+  clock = p .clock;
+}
+
+-- the parts with other handles and inboxes, another active address and another clock
+abbrev pub changed : Parts → Handles → List ℕ → List Entry → ℕ → ℕ → Parts
+changed p handles counts entries active clock = record {
+  counts = counts;
+  clock = clock;
+  «can_transmit» = p .«can_transmit»;
+  «can_monitor_all» = p .«can_monitor_all»;
+  last = p .last;
+  settings = p .settings;
+  noted = p .noted;
+  active = active;
+  handles = handles;
+  wire = p .wire;
+  queue = p .queue;
+  waits = p .waits;
+  entries = entries;
 }
 
 -- an answer that gives nothing more: the errno, or success

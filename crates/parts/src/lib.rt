@@ -4,11 +4,13 @@ ghost use mathlib.Core.Path.{_≡_};
 ghost use lib.ListN.{length};
 ghost use Rattle.inbox.specs.Inboxes.{inboxesOf, inboxOf};
 ghost use Rattle.rules.specs.Call.{check};
+ghost use Rattle.rules.specs.Clock.{clockRefusal};
 ghost use Rattle.rules.specs.Handles.{handleAt, isOpen, isConfigured, isOwn};
 ghost use Rattle.rules.specs.State.{fresh, noSettings, noneNoted, withInboxes};
 ghost use Rattle.parts.specs.Parts.{boxesOf, stateOf};
 use constants::CEC_LOG_ADDR_UNREGISTERED;
 use constants::CEC_PHYS_ADDR_INVALID;
+use constants::EINVAL;
 use entry::Entry;
 use handle::Handle;
 use handles::Handles;
@@ -24,6 +26,7 @@ use wire::Wire;
 #[repr(C)]
 pub struct Parts {
     pub counts: [usize; 8],
+    pub clock: u64,
     pub can_transmit: bool,
     pub can_monitor_all: bool,
     pub last: u32,
@@ -49,6 +52,13 @@ pub fn check(refused: bool, errno: u32, later: u32) -> u32
     ensures { λ r. ⌜ r ≡ check refused errno later ⌝ }
 {
     if refused { errno } else { later }
+}
+
+// The last check of a bus result and of a message: a time may not be before that of the last one.
+pub fn clock_errno(clock: u64, ts: u64) -> u32
+    ensures { λ r. ⌜ r ≡ clockRefusal clock ts ⌝ }
+{
+    check(ts < clock, EINVAL, 0)
 }
 
 // The settings as unconfigure leaves them.
@@ -84,6 +94,7 @@ impl Parts {
         let counts = inboxes.counts;
         Parts {
             counts: counts,
+            clock: 0,
             can_transmit: can_transmit,
             can_monitor_all: can_monitor_all,
             last: 0,

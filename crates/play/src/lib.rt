@@ -12,6 +12,7 @@ use entry::Entry;
 use fields::counts_of;
 use fields::message_bytes;
 use fields::number_4;
+use fields::number_8;
 use fields::request_of;
 use fields::settings_of;
 use text::Said;
@@ -121,7 +122,8 @@ pub fn start(adapter: Adapter) -> Played
 pub fn result(adapter: Adapter, r: [u8; 28]) -> Played
     ensures { λ p. ⌜ playedOf p ≡ effect (stateOf adapter) (resultOf r) ⌝ }
 {
-    of_done(adapter.bus_result(r[1], counts_of(r)))
+    let ts = number_8(r[6], r[7], r[8], r[9], r[10], r[11], r[12], r[13]);
+    of_done(adapter.bus_result(r[1], counts_of(r), ts))
 }
 
 pub fn time(adapter: Adapter, r: [u8; 28]) -> Played
@@ -133,7 +135,8 @@ pub fn time(adapter: Adapter, r: [u8; 28]) -> Played
 pub fn message(adapter: Adapter, r: [u8; 28]) -> Played
     ensures { λ p. ⌜ playedOf p ≡ effect (stateOf adapter) (incomingOf r) ⌝ }
 {
-    of_done(adapter.received(r[1], message_bytes(r)))
+    let ts = number_8(r[18], r[19], r[20], r[21], r[22], r[23], r[24], r[25]);
+    of_done(adapter.received(r[1], message_bytes(r), ts))
 }
 
 pub fn configure(adapter: Adapter, r: [u8; 28]) -> Played

@@ -5,7 +5,7 @@ use constants::CEC_TX_STATUS_OK;
 use entry::Counts;
 use request::Request;
 
-const ROUNDS: u32 = 10000;
+const ROUNDS: u64 = 10000;
 
 fn poll() -> Request {
     let mut bytes = [0; 16];
@@ -19,10 +19,13 @@ fn poll() -> Request {
     }
 }
 
-fn round(adapter: Adapter) -> Adapter {
+// The message has gone out at a time, which rises from round to round.
+fn round(adapter: Adapter, ts: u64) -> Adapter {
     let accepted = adapter.transmit(0, poll());
     let started = accepted.adapter.bus_start();
-    let done = started.adapter.bus_result(CEC_TX_STATUS_OK, Counts::none());
+    let done = started
+        .adapter
+        .bus_result(CEC_TX_STATUS_OK, Counts::none(), ts);
     done.adapter.receive(0).adapter
 }
 
@@ -30,7 +33,7 @@ fn main() {
     let mut now = Adapter::fresh(true, true).open(false).adapter;
     let mut i = 0;
     while i < ROUNDS {
-        now = round(now);
+        now = round(now, i);
         i += 1;
     }
     io::print_decimal(1, now.transmit(0, poll()).sequence as u64);

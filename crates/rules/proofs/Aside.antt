@@ -27,7 +27,7 @@ use Rattle.rules.specs.Derived.{roomTaken}
 use Rattle.rules.specs.Handles.{handleAt, isOpen, inRole}
 use Rattle.rules.specs.Incoming.{followed, refusedMessage, isCopied, isUnhandled}
 use Rattle.rules.specs.Owed.{pending, roomOwed, owedRoom}
-use Rattle.rules.specs.State.{State, withHandles, withQueue, withNoted, withActive}
+use Rattle.rules.specs.State.{State, withHandles, withQueue, withNoted, withActive, withClock}
 use Rattle.transmission.specs.Transmission.{noOwner, ownerless, roomFor}
 use Rattle.transmission.specs.declared.Transmission.{Transmission}
 use Rattle.waits.specs.Waits.{Taken}
@@ -50,9 +50,9 @@ pub record Aside (s t : State) : Type 0 where
   pub none : (h : ℕ) → isOpen s h ≡ false → inboxOf (t .inboxes) h ≡ inboxOf (s .inboxes) h
   pub settings : t .settings ≡ s .settings
 
--- nothing but lost counts, noted addresses and the active one; nothing at all, one after the other, one or nothing, and several
-still-aside : (s : State) (hs : List Handle) (x : List ℕ) (a : ℕ) → SameModes s (withHandles s hs) → Aside s (withActive (withNoted (withHandles s hs) x) a)
-still-aside s hs x a m = record {
+-- nothing but lost counts, noted addresses, the active one and the clock; nothing at all, one after the other, one or nothing, and several
+still-aside : (s : State) (hs : List Handle) (x : List ℕ) (a ts : ℕ) → SameModes s (withHandles s hs) → Aside s (withClock (withActive (withNoted (withHandles s hs) x) a) ts)
+still-aside s hs x a ts m = record {
   modes = m;
   inboxes = refl;
   wire = refl;
@@ -67,7 +67,7 @@ still-aside s hs x a m = record {
 }
 
 pub aside-refl : (s : State) → Aside s s
-aside-refl s = still-aside s (s .handles) (s .noted) (s .active) (modes-refl s)
+aside-refl s = still-aside s (s .handles) (s .noted) (s .active) (s .clock) (modes-refl s)
 
 pub aside-trans : (s t u : State) → Aside s t → Aside t u → Aside s u
 aside-trans s t u a b = record {
@@ -116,7 +116,7 @@ aside-owed s t a h l = rw (a .waits) (omega (arith, aside-sum (roomFor h) (room-
 
 -- a copy: dropped and counted as lost, or delivered
 lost-aside : (s : State) (g : ℕ) → Aside s (withHandles s (set (s .handles) g (loses (handleAt s g))))
-lost-aside s g = still-aside s (set (s .handles) g (loses (handleAt s g))) (s .noted) (s .active) (modes-lost s g)
+lost-aside s g = still-aside s (set (s .handles) g (loses (handleAt s g))) (s .noted) (s .active) (s .clock) (modes-lost s g)
 
 -- a copy is delivered only where entries plus owed room is not 16
 delivered-room : (s : State) (g : ℕ) (e : Entry) (h : ℕ) → eqb (roomTaken s g) 16 ≡ false → roomTaken s h ≤ 16 → roomTaken (deliver s g e) h ≤ 16
@@ -191,18 +191,21 @@ sends-aside s bytes = aside-if (s .capabilities .transmit) s (withQueue s (put 1
 -- the steps of a message from the wire that end no wait
 pub notes-aside : (s : State) (m : Message) → Aside s (notes s m)
 unfolding notes
-notes-aside s m = aside-if (isNoted m) s _ (still-aside s (s .handles) _ (s .active) (modes-refl s))
+notes-aside s m = aside-if (isNoted m) s _ (still-aside s (s .handles) _ (s .active) (s .clock) (modes-refl s))
 
 pub answers-aside : (s : State) (b : Bool) (bytes : List ℕ) → Aside s (answers s b bytes)
 unfolding answers
 answers-aside s b bytes = aside-if b s _ (sends-aside s bytes)
 
-pub followed-aside : (s : State) (b : Bool) (t : Taken) (m : Message) → Aside s (followed s b t m)
-followed-aside s b t m = aside-if (isCopied b t) s _ (copies-aside _ (messageCopy m) (messageCopy-shows m .sequence) s)
+pub followed-aside : (s : State) (b : Bool) (t : Taken) (m : Message) (ts : ℕ) → Aside s (followed s b t m ts)
+followed-aside s b t m ts = aside-if (isCopied b t) s _ (copies-aside _ (messageCopy m ts) (messageCopy-shows m ts .sequence) s)
 
 pub refusedMessage-aside : (s : State) (b : Bool) (t : Taken) (m : Message) → Aside s (refusedMessage s b t m)
 refusedMessage-aside s b t m = aside-if (isUnhandled s b t m) s _ (sends-aside s _)
 
--- and the tracker (document 02, W-205)
-pub active-aside : (s : State) (a : ℕ) → Aside s (withActive s a)
-active-aside s a = still-aside s (s .handles) (s .noted) a (modes-refl s)
+-- the tracker and the clock (document 02, W-205 and W-208)
+pub clock-aside : (s : State) (ts : ℕ) → Aside s (withClock s ts)
+clock-aside s ts = still-aside s (s .handles) (s .noted) (s .active) ts (modes-refl s)
+
+pub active-aside : (s : State) (a ts : ℕ) → Aside s (withClock (withActive s a) ts)
+active-aside s a ts = still-aside s (s .handles) (s .noted) a ts (modes-refl s)

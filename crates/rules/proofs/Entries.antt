@@ -21,17 +21,17 @@ pub record Shows (number tx rx : ℕ) (e : Entry) : Type 0 where
   pub transmitted : e .«tx_status» ≡ tx
   pub received : e .«rx_status» ≡ rx
 
-pub result-shows : (n status : ℕ) (c : Counts) (m : Message) → Shows n status 0 (result n status c m)
-result-shows n status c m = record { sequence = refl; transmitted = refl; received = refl }
+pub result-shows : (n status : ℕ) (c : Counts) (m : Message) (ts : ℕ) → Shows n status 0 (result n status c m ts)
+result-shows n status c m ts = record { sequence = refl; transmitted = refl; received = refl }
 
-pub resultCopy-shows : (status : ℕ) (c : Counts) (m : Message) → Shows 0 status 0 (resultCopy status c m)
-resultCopy-shows status c m = record { sequence = refl; transmitted = refl; received = refl }
+pub resultCopy-shows : (status : ℕ) (c : Counts) (m : Message) (ts : ℕ) → Shows 0 status 0 (resultCopy status c m ts)
+resultCopy-shows status c m ts = record { sequence = refl; transmitted = refl; received = refl }
 
-reply-shows : (n : ℕ) (m : Message) → Shows n 0 0x01 (reply n m)
-reply-shows n m = record { sequence = refl; transmitted = refl; received = refl }
+reply-shows : (n : ℕ) (m : Message) (sent ts : ℕ) → Shows n 0 0x01 (reply n m sent ts)
+reply-shows n m sent ts = record { sequence = refl; transmitted = refl; received = refl }
 
-featureAbortReply-shows : (n : ℕ) (m : Message) → Shows n 0 0x05 (featureAbortReply n m)
-featureAbortReply-shows n m = record { sequence = refl; transmitted = refl; received = refl }
+featureAbortReply-shows : (n : ℕ) (m : Message) (sent ts : ℕ) → Shows n 0 0x05 (featureAbortReply n m sent ts)
+featureAbortReply-shows n m sent ts = record { sequence = refl; transmitted = refl; received = refl }
 
 pub abortedResult-shows : (t : Transmission) → Shows (t .sequence) CEC-TX-STATUS-ABORTED 0 (abortedResult t)
 abortedResult-shows t = record { sequence = refl; transmitted = refl; received = refl }
@@ -42,12 +42,12 @@ timeoutEntry-shows w = record { sequence = refl; transmitted = refl; received = 
 pub abortEntry-shows : (w : Wait) → Shows (w .sequence) 0 CEC-RX-STATUS-ABORTED (abortEntry w)
 abortEntry-shows w = record { sequence = refl; transmitted = refl; received = refl }
 
-pub messageCopy-shows : (m : Message) → Shows 0 0 0x01 (messageCopy m)
-messageCopy-shows m = record { sequence = refl; transmitted = refl; received = refl }
+pub messageCopy-shows : (m : Message) (ts : ℕ) → Shows 0 0 0x01 (messageCopy m ts)
+messageCopy-shows m ts = record { sequence = refl; transmitted = refl; received = refl }
 
 -- the entry of a reply, Feature Abort or not
-pub replyEntry-shows : (n : ℕ) (m : Message) → Shows n 0 (cond (isFeatureAbort (opcode (m .bytes))) 0x05 0x01) (replyEntry n m)
-replyEntry-shows n m =
+pub replyEntry-shows : (w : Wait) (m : Message) (ts : ℕ) → Shows (w .sequence) 0 (cond (isFeatureAbort (opcode (m .bytes))) 0x05 0x01) (replyEntry w m ts)
+replyEntry-shows w m ts =
     split (isFeatureAbort (opcode (m .bytes)))
-    (λ e. rw e (featureAbortReply-shows n m))
-    (λ e. rw e (reply-shows n m))
+    (λ e. rw e (featureAbortReply-shows (w .sequence) m (w .«tx_ts») ts))
+    (λ e. rw e (reply-shows (w .sequence) m (w .«tx_ts») ts))

@@ -24,12 +24,12 @@ not-asked x code =
     (λ p. rw (ne-eqb (x .version) CEC-OP-CEC-VERSION-2-0 p, and-false (eqb code CEC-MSG-GIVE-FEATURES)))
 
 -- "every message but A5, and with 4 or 5 A5 too, is dealt with as document 01 says": with its questions and its answers, in every state
-pub as-document-01 : (s : State) (m : Message)
+pub as-document-01 : (s : State) (m : Message) (ts : ℕ)
     → (opcode (m .bytes) ≢ CEC-MSG-GIVE-FEATURES) ⊎ (s .settings .version ≢ CEC-OP-CEC-VERSION-2-0)
-    → heard s m ≡ heardWith s (mayAnswer s m && isQuestion (opcode (m .bytes))) (coreAnswer (s .settings) m) m
-as-document-01 s m p = rw (not-asked (s .settings) (opcode (m .bytes)) p, or-false (isQuestion (opcode (m .bytes))))
+    → heard s m ts ≡ heardWith s (mayAnswer s m && isQuestion (opcode (m .bytes))) (coreAnswer (s .settings) m) m ts
+as-document-01 s m ts p = rw (not-asked (s .settings) (opcode (m .bytes)) p, or-false (isQuestion (opcode (m .bytes))))
 
 -- "With version 6 the core answers A5 with A6 to address 15: version and those three bytes", where it may answer at all
-pub features-answered : (s : State) (m : Message) → opcode (m .bytes) ≡ 0xA5 → s .settings .version ≡ 6
-    → heard s m ≡ heardWith s (mayAnswer s m) ((destination (m .bytes) * 16 + 15) ∷ 0xA6 ∷ 6 ∷ s .settings .«all_device_types» ∷ s .settings .«rc_profile» ∷ s .settings .«device_features» ∷ []) m
-features-answered s m p q = rw (p, q, and-true (mayAnswer s m))
+pub features-answered : (s : State) (m : Message) (ts : ℕ) → opcode (m .bytes) ≡ 0xA5 → s .settings .version ≡ 6
+    → heard s m ts ≡ heardWith s (mayAnswer s m) ((destination (m .bytes) * 16 + 15) ∷ 0xA6 ∷ 6 ∷ s .settings .«all_device_types» ∷ s .settings .«rc_profile» ∷ s .settings .«device_features» ∷ []) m ts
+features-answered s m ts p q = rw (p, q, and-true (mayAnswer s m))

@@ -12,7 +12,7 @@ use Rattle.rules.specs.Close.{doClose}
 use Rattle.rules.specs.Configure.{doConfigure}
 use Rattle.rules.specs.Core.{sends, answers, notes}
 use Rattle.rules.specs.Deliver.{copyToBy, copiesBy}
-use Rattle.rules.specs.FurtherAnswers.{handleAnswers, modeAnswers, transmitAnswers, roomAnswers, busAnswers, timeAnswers, configurationAnswers, messageAnswers, coreAnswers, featureAnswers, trackerAnswers, replyAnswers}
+use Rattle.rules.specs.FurtherAnswers.{handleAnswers, modeAnswers, transmitAnswers, roomAnswers, busAnswers, timeAnswers, configurationAnswers, messageAnswers, coreAnswers, featureAnswers, trackerAnswers, replyAnswers, timestampAnswers}
 use Rattle.rules.specs.Incoming.{heardWith}
 use Rattle.rules.specs.KnownAnswers.{knownAnswers}
 use Rattle.rules.specs.Listing.{doListing}
@@ -52,5 +52,6 @@ pub further-answers :
     × (allGiven featureAnswers ≡ true)
     × (allGiven trackerAnswers ≡ true)
     × (allGiven replyAnswers ≡ true)
+    × (allGiven timestampAnswers ≡ true)
 unfolding every-rule
-further-answers = (refl, refl, refl, refl, refl, refl, refl, refl, refl, refl, refl, refl)
+further-answers = (refl, refl, refl, refl, refl, refl, refl, refl, refl, refl, refl, refl, refl)

@@ -7,6 +7,7 @@ pub mod Features
 pub mod Tracker
 pub mod Entries
 pub mod Opcodes
+pub mod Timestamps
 pub mod Accepted
 pub mod CoreSends
 pub mod Deliveries

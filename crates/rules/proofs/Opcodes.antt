@@ -24,8 +24,8 @@ first-abort true w = refl
 first-abort false true = refl
 first-abort false false = refl
 
-shown-opcode : (n : ℕ) (m : Message) → replyEntry n m .reply ≡ opcode (m .bytes)
-shown-opcode n m = split (isFeatureAbort (opcode (m .bytes))) (λ q. rw q) (λ q. rw q)
+shown-opcode : (w : Wait) (m : Message) (ts : ℕ) → replyEntry w m ts .reply ≡ opcode (m .bytes)
+shown-opcode w m ts = split (isFeatureAbort (opcode (m .bytes))) (λ q. rw q) (λ q. rw q)
 
 module _ (m : Message) (w : Wait) (e : answeredBy m w ≡ true) where
   -- what is shown is of the bytes that came
@@ -43,13 +43,13 @@ module _ (m : Message) (w : Wait) (e : answeredBy m w ≡ true) where
 
 pub opcodes-by-kind : OpcodesByKind
 opcodes-by-kind = record {
-  results = λ n status c m. refl;
+  results = λ n status c m ts. refl;
   abortedResults = λ t. refl;
-  resultCopies = λ status c m. refl;
-  messageCopies = λ m. refl;
+  resultCopies = λ status c m ts. refl;
+  messageCopies = λ m ts. refl;
   timeouts = λ w. refl;
   abortedWaits = λ w. refl;
-  replies = λ n m w e. shown-opcode n m ∙ came-opcode m w e;
-  rules = λ n m w e. rw (shown-opcode n m) (rule-opcode m w e);
-  statuses = λ n m w e. rw (rule-abort m w e) (replyEntry-shows n m .received);
+  replies = λ m w ts e. shown-opcode w m ts ∙ came-opcode m w e;
+  rules = λ m w ts e. rw (shown-opcode w m ts) (rule-opcode m w e);
+  statuses = λ m w ts e. rw (rule-abort m w e) (replyEntry-shows w m ts .received);
 }

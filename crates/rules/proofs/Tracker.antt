@@ -37,7 +37,7 @@ use Rattle.rules.specs.Mode.{doMode}
 use Rattle.rules.specs.Open.{doOpen}
 use Rattle.rules.specs.Owed.{pending}
 use Rattle.rules.specs.Receive.{doReceive}
-use Rattle.rules.specs.State.{State, Capabilities, fresh, withWaits, withActive}
+use Rattle.rules.specs.State.{State, Capabilities, fresh, withWaits, withActive, withClock}
 use Rattle.rules.specs.Step.{step, after}
 use Rattle.rules.specs.Time.{doTime, overdue, remaining, timeoutEntry, timeOut}
 use Rattle.rules.specs.Tracker.{namesActive, namedAddress, setsActive, clearsActive, tracked, activeAfterMessage, activeAfterCall, Tracks, doMessage}
@@ -68,9 +68,9 @@ unfolding unless
 kept n s o q = split (eqb n 0) (λ e. rw e q) (λ e. rw e)
 
 -- a message that is accepted is heard
-message-moves : (s : State) (n : ℕ) (bytes : List ℕ) → step s (callMessage n bytes) .state .active ≡ activeAfterCall s (callMessage n bytes)
+message-moves : (s : State) (n : ℕ) (bytes : List ℕ) (ts : ℕ) → step s (callMessage n bytes ts) .state .active ≡ activeAfterCall s (callMessage n bytes ts)
 unfolding doMessage unless
-message-moves s n bytes = split (eqb (incomingRefusal n) 0) (λ q. rw q) (λ q. rw q)
+message-moves s n bytes ts = split (eqb (incomingRefusal (s .clock) n ts) 0) (λ q. rw q) (λ q. rw q)
 
 -- "hears every accepted incoming message while configured", "Unconfigure clears the tracker"; no other call moves it
 pub tracker-moves : (s : State) (c : Call) → step s c .state .active ≡ activeAfterCall s c
@@ -81,8 +81,8 @@ tracker-moves s (callMode h mode) = kept _ s _ refl
 tracker-moves s (callTransmit h r) = kept _ s _ (split (isSelfPoll s r) (λ q. rw q) (λ q. rw q))
 tracker-moves s (callReceive h) = kept _ s _ refl
 tracker-moves s callBusStart = kept _ s _ refl
-tracker-moves s (callBusResult status counts) = kept _ s _ (copies-active _ _ s)
-tracker-moves s (callMessage n bytes) = message-moves s n bytes
+tracker-moves s (callBusResult status counts ts) = kept _ s _ (copies-active _ _ s)
+tracker-moves s (callMessage n bytes ts) = message-moves s n bytes ts
 tracker-moves s (callTime ms) = each-active timeOut (λ t w. refl) _ (overdue ms (s .waits))
 tracker-moves s (callConfigure x) = kept _ s _ refl
 tracker-moves s callUnconfigure = each-active abortWait (λ t w. refl) _ (s .waits) ∙ each-active abortTransmit (λ t x. refl) (unset s) (pending s)
@@ -95,32 +95,32 @@ pub unconfigured-none : (s : State) → step s callUnconfigure .state .active �
 unconfigured-none s = tracker-moves s callUnconfigure
 
 -- a message that is refused leaves the tracker
-pub refused-unheard : (s : State) (n : ℕ) (bytes : List ℕ) (e : ℕ) → step s (callMessage n bytes) .answer ≡ refused e → step s (callMessage n bytes) .state .active ≡ s .active
-refused-unheard s n bytes e q = ap (λ (t : State). t .active) (refused-same s (callMessage n bytes) e q)
+pub refused-unheard : (s : State) (n : ℕ) (bytes : List ℕ) (ts e : ℕ) → step s (callMessage n bytes ts) .answer ≡ refused e → step s (callMessage n bytes ts) .state .active ≡ s .active
+refused-unheard s n bytes ts e q = ap (λ (t : State). t .active) (refused-same s (callMessage n bytes ts) e q)
 
 -- ---- over any list of calls
 -- steps 3 to 6 of a message leave the settings
-handled-settings : (s : State) (said : Bool) (reply : List ℕ) (t : Taken) (m : Message) → handled s said reply t m .settings ≡ s .settings
-handled-settings s said reply t m =
-    let a = replied s t m in
+handled-settings : (s : State) (said : Bool) (reply : List ℕ) (t : Taken) (m : Message) (ts : ℕ) → handled s said reply t m ts .settings ≡ s .settings
+handled-settings s said reply t m ts =
+    let a = replied s t m ts in
     let b = notes a m in
     let c = answers b said reply in
-    let d = followed c said t m in
+    let d = followed c said t m ts in
     refusedMessage-aside d said t m .settings
-    ∙ followed-aside c said t m .settings
+    ∙ followed-aside c said t m ts .settings
     ∙ answers-aside b said reply .settings
     ∙ notes-aside a m .settings
     ∙ split (t .found) (λ q. rw q) (λ q. rw q)
 
 -- and so do all six
-heard-settings : (s : State) (said : Bool) (reply : List ℕ) (m : Message) → heardWith s said reply m .settings ≡ s .settings
+heard-settings : (s : State) (said : Bool) (reply : List ℕ) (m : Message) (ts : ℕ) → heardWith s said reply m ts .settings ≡ s .settings
 unfolding heardWith
-heard-settings s said reply m =
-    let c = copies (inRole (monitors s m)) (messageCopy m) s in
-    let a = copies-aside (monitors s m) (messageCopy m) (messageCopy-shows m .sequence) s in
+heard-settings s said reply m ts =
+    let c = copies (inRole (monitors s m)) (messageCopy m ts) s in
+    let a = copies-aside (monitors s m) (messageCopy m ts) (messageCopy-shows m ts .sequence) s in
     split (stops s m)
     (λ q. rw q (a .settings))
-    (λ q. rw q (handled-settings c said reply (matchTaken m (s .waits)) m ∙ a .settings))
+    (λ q. rw q (handled-settings c said reply (matchTaken m (s .waits)) m ts ∙ a .settings))
 
 -- what the tracker hears is well formed, or none
 tracked-well : (active : ℕ) (m : Message) → (active ≡ CEC-PHYS-ADDR-INVALID) ⊎ (isWellFormed active ≡ true) → (tracked active m ≡ CEC-PHYS-ADDR-INVALID) ⊎ (isWellFormed (tracked active m) ≡ true)
@@ -144,11 +144,11 @@ module _ (s : State) (k : Tracks s) where
   checked n o p = split (eqb n 0) (λ e. rw e (p (eqb-true n 0 e))) (λ e. rw e k)
 
   -- a message: unconfigured it is not heard
-  message-tracks : (t : State) (m : Message) → t .settings ≡ s .settings → Tracks (withActive t (activeAfterMessage s m))
-  message-tracks t m p =
+  message-tracks : (t : State) (m : Message) (ts : ℕ) → t .settings ≡ s .settings → Tracks (withClock (withActive t (activeAfterMessage s m)) ts)
+  message-tracks t m ts p =
       split (isConfigured s)
       (λ q. record { wellFormed = rw q (tracked-well (s .active) m (k .wellFormed)); unconfigured = λ r. clash q (rw p at r) })
-      (λ q. same (withActive t (activeAfterMessage s m)) p (rw q))
+      (λ q. same (withClock (withActive t (activeAfterMessage s m)) ts) p (rw q))
 
   step-tracks : (c : Call) → Tracks (step s c .state)
   unfolding doOpen doClose doMode doTransmit doReceive doBusStart doBusResult doMessage doTime doConfigure doUnconfigure doListing doLookup
@@ -158,8 +158,8 @@ module _ (s : State) (k : Tracks s) where
   step-tracks (callTransmit h r) = checked _ _ (λ _. split (isSelfPoll s r) (λ q. rw q (same _ refl refl)) (λ q. rw q (same _ refl refl)))
   step-tracks (callReceive h) = checked _ _ (λ _. same _ refl refl)
   step-tracks callBusStart = checked _ _ (λ _. same _ refl refl)
-  step-tracks (callBusResult status counts) = checked _ _ (λ _. same _ (copies-aside isMonitor _ refl s .settings) (copies-active _ _ s))
-  step-tracks (callMessage n bytes) = checked _ _ (λ _. message-tracks (heard s (message n bytes)) (message n bytes) (heard-settings s _ _ (message n bytes)))
+  step-tracks (callBusResult status counts ts) = checked _ _ (λ _. same _ (copies-aside isMonitor _ refl s .settings) (copies-active _ _ s))
+  step-tracks (callMessage n bytes ts) = checked _ _ (λ _. message-tracks (heard s (message n bytes) ts) (message n bytes) ts (heard-settings s _ _ (message n bytes) ts))
   step-tracks (callTime ms) = rw (each-delivers (λ w. w .owner) timeoutEntry (withWaits s (remaining ms (s .waits))) (overdue ms (s .waits))) (same _ refl refl)
   step-tracks (callConfigure x) = checked _ _ (λ z. none _ (k .unconfigured (passed (isConfigured s) EBUSY _ (omega arith) z .0)))
   step-tracks callUnconfigure = none _ (unconfigured-none s)

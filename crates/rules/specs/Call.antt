@@ -19,6 +19,7 @@ pub record Request : Type 0 where
   pub timeout : ℕ
   pub flags : ℕ
 
+-- a bus result and a message carry "the time of the last byte" (document 02, W-208) as their last argument
 pub data Call : Type 0 where
   callOpen : Bool → Call
   callClose : ℕ → Call
@@ -26,8 +27,8 @@ pub data Call : Type 0 where
   callTransmit : ℕ → Request → Call
   callReceive : ℕ → Call
   callBusStart : Call
-  callBusResult : ℕ → Counts → Call
-  callMessage : ℕ → List ℕ → Call
+  callBusResult : ℕ → Counts → ℕ → Call
+  callMessage : ℕ → List ℕ → ℕ → Call
   callTime : ℕ → Call
   callConfigure : Settings → Call
   callUnconfigure : Call

@@ -24,7 +24,7 @@ shown (refused errno) = errno ∷ []
 shown done = 0 ∷ []
 shown (opened h) = 0 ∷ h ∷ []
 shown (accepted number status) = 0 ∷ number ∷ status ∷ []
-shown (received e) = 0 ∷ e .sequence ∷ e .«tx_status» ∷ e .«rx_status» ∷ e .message .length ∷ e .counts .«arb_lost» ∷ e .counts .nack ∷ e .counts .«low_drive» ∷ e .counts .error ∷ e .reply ∷ []
+shown (received e) = 0 ∷ e .sequence ∷ e .«tx_status» ∷ e .«rx_status» ∷ e .message .length ∷ e .counts .«arb_lost» ∷ e .counts .nack ∷ e .counts .«low_drive» ∷ e .counts .error ∷ e .reply ∷ e .«tx_ts» ∷ e .«rx_ts» ∷ []
 shown (started m) = 0 ∷ m .length ∷ m .bytes
 shown (listed rows) = 0 ∷ rowShown rows
 shown (address a) = 0 ∷ a ∷ []
@@ -60,15 +60,19 @@ bench privileged =
 abbrev pub request : List ℕ → ℕ → Request
 request bytes reply = record { length = length bytes; bytes = bytes ++ replicate 16 0; reply = reply; timeout = 0; flags = 0 }
 
+-- at a time; at time 0, where times are no matter
+abbrev pub incomingAt : List ℕ → ℕ → Call
+incomingAt bytes ts = callMessage (length bytes) (bytes ++ replicate 16 0) ts
+
 abbrev pub incoming : List ℕ → Call
-incoming bytes = callMessage (length bytes) (bytes ++ replicate 16 0)
+incoming bytes = incomingAt bytes 0
 
 -- "sent 40 8F wants 90", its result 0x01 received; then what came, and a receive
 abbrev pub asked : List ℕ → List Call
 asked came =
     callTransmit 0 (request (0x40 ∷ 0x8F ∷ []) 0x90)
     ∷ callBusStart
-    ∷ callBusResult 0x01 noCounts
+    ∷ callBusResult 0x01 noCounts 0
     ∷ callReceive 0
     ∷ incoming came
     ∷ callReceive 0
@@ -76,7 +80,7 @@ asked came =
 
 -- a message on the wire, and its result
 abbrev pub resulting : ℕ → List Call
-resulting status = callTransmit 0 (request (0x40 ∷ 0x8F ∷ []) 0) ∷ callBusStart ∷ callBusResult status noCounts ∷ []
+resulting status = callTransmit 0 (request (0x40 ∷ 0x8F ∷ []) 0) ∷ callBusStart ∷ callBusResult status noCounts 0 ∷ []
 
 pub record Case : Type 0 where
   pub start : State

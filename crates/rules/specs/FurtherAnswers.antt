@@ -1,4 +1,4 @@
--- More answers, worked out by hand from document 01, a table for each section, and from W-203, W-205 and W-207: the known answers that are not starred, the checks of each call, and places that can be read in two ways.
+-- More answers, worked out by hand from document 01, a table for each section, and from W-203, W-205, W-207 and W-208: the known answers that are not starred, the checks of each call, and places that can be read in two ways.
 -- Assumes nothing.
 use Prim.Native.Nat.{ℕ, zero, suc, _-_}
 use mathlib.Core.Bool.{Bool, true, false}
@@ -7,7 +7,7 @@ use lib.ListN.{length, replicate}
 use Rattle.constants.specs.Kernel.{EPERM, EBADF, EAGAIN, EBUSY, EINVAL, EMFILE, ENOTTY, ENONET}
 use Rattle.entry.specs.Entry.{noCounts}
 use Rattle.rules.specs.Call.{Call, callOpen, callClose, callMode, callTransmit, callReceive, callBusStart, callBusResult, callMessage, callTime, callConfigure, callUnconfigure, callListing, callLookup, callActiveAddress}
-use Rattle.rules.specs.Cases.{Case, bench, benchSettings, request, incoming}
+use Rattle.rules.specs.Cases.{Case, bench, benchSettings, request, incoming, incomingAt}
 use Rattle.rules.specs.State.{State, fresh, withLast}
 use Rattle.rules.specs.Step.{after}
 
@@ -19,7 +19,7 @@ unconfigured = after (fresh (record { transmit = true; monitorAll = true })) (ca
 abbrev pub unable : State
 unable = after (fresh (record { transmit = false; monitorAll = false })) (callOpen true ∷ callConfigure benchSettings ∷ [])
 
--- a message without and with a reply wanted; a transmit with all that can be asked; the result of a message that got through
+-- a message without and with a reply wanted; a transmit with all that can be asked; the result of a message that got through, at a time and at time 0
 abbrev pub plain : ℕ → Call
 plain h = callTransmit h (request (0x40 ∷ 0x8F ∷ []) 0)
 
@@ -29,8 +29,11 @@ asking h = callTransmit h (request (0x40 ∷ 0x8F ∷ []) 0x90)
 abbrev pub sending : List ℕ → ℕ → ℕ → ℕ → Call
 sending bytes reply timeout flags = callTransmit 0 (record { length = length bytes; bytes = bytes ++ replicate 16 0; reply = reply; timeout = timeout; flags = flags })
 
+abbrev pub okAt : ℕ → Call
+okAt ts = callBusResult 0x01 noCounts ts
+
 abbrev pub ok : Call
-ok = callBusResult 0x01 noCounts
+ok = okAt 0
 
 -- handle 0 in a mode beside handle 1, which is exclusive initiator, and then other calls
 abbrev pub beside : ℕ → List Call → List Call
@@ -57,12 +60,15 @@ abbrev pub sentFirst : ℕ → List Call → List Call
 sentFirst zero cs = cs
 sentFirst (suc n) cs = callBusStart ∷ ok ∷ sentFirst n cs
 
--- what a bus start gives for these bytes, and a receive for an entry without counts: number, tx_status, rx_status, length and opcode of the reply
+-- what a bus start gives for these bytes, and a receive for an entry without counts: number, tx_status, rx_status, length, opcode of the reply, and the two times, 0 where they are no matter
 abbrev pub out : List ℕ → List ℕ
 out bytes = 0 ∷ length bytes ∷ bytes ++ replicate (16 - length bytes) 0
 
+abbrev pub gotAt : ℕ → ℕ → ℕ → ℕ → ℕ → ℕ → ℕ → List ℕ
+gotAt number tx rx size reply sent received = 0 ∷ number ∷ tx ∷ rx ∷ size ∷ 0 ∷ 0 ∷ 0 ∷ 0 ∷ reply ∷ sent ∷ received ∷ []
+
 abbrev pub got : ℕ → ℕ → ℕ → ℕ → ℕ → List ℕ
-got number tx rx size reply = 0 ∷ number ∷ tx ∷ rx ∷ size ∷ 0 ∷ 0 ∷ 0 ∷ 0 ∷ reply ∷ []
+got number tx rx size reply = gotAt number tx rx size reply 0 0
 
 -- handles, inboxes and the listing ("The adapter's parts")
 abbrev pub handleAnswers : List Case
@@ -192,15 +198,15 @@ busAnswers =
     -- the wire taken and the queue empty
     ∷ record { start = bench true; calls = plain 0 ∷ callBusStart ∷ callBusStart ∷ []; gives = EBUSY ∷ [] }
     -- counts whose bit is clear are 0, and a status of two ends
-    ∷ record { start = bench true; calls = plain 0 ∷ callBusStart ∷ callBusResult 0x25 (record { «arb_lost» = 1; nack = 2; «low_drive» = 3; error = 4 }) ∷ []; gives = EINVAL ∷ [] }
-    ∷ record { start = bench true; calls = plain 0 ∷ callBusStart ∷ callBusResult 0x26 (record { «arb_lost» = 1; nack = 2; «low_drive» = 3; error = 4 }) ∷ callReceive 0 ∷ []; gives = 0 ∷ 1 ∷ 0x26 ∷ 0 ∷ 2 ∷ 1 ∷ 2 ∷ 0 ∷ 0 ∷ 0 ∷ [] }
+    ∷ record { start = bench true; calls = plain 0 ∷ callBusStart ∷ callBusResult 0x25 (record { «arb_lost» = 1; nack = 2; «low_drive» = 3; error = 4 }) 0 ∷ []; gives = EINVAL ∷ [] }
+    ∷ record { start = bench true; calls = plain 0 ∷ callBusStart ∷ callBusResult 0x26 (record { «arb_lost» = 1; nack = 2; «low_drive» = 3; error = 4 }) 0 ∷ callReceive 0 ∷ []; gives = 0 ∷ 1 ∷ 0x26 ∷ 0 ∷ 2 ∷ 1 ∷ 2 ∷ 0 ∷ 0 ∷ 0 ∷ 0 ∷ 0 ∷ [] }
     -- a result, and the copy that a monitor gets before it
-    ∷ record { start = bench true; calls = plain 0 ∷ callMode 0 0xE0 ∷ callBusStart ∷ callBusResult 0x22 noCounts ∷ callReceive 0 ∷ []; gives = got 0 0x22 0x00 2 0x00 }
-    ∷ record { start = bench true; calls = plain 0 ∷ callMode 0 0xE0 ∷ callBusStart ∷ callBusResult 0x22 noCounts ∷ callReceive 0 ∷ callReceive 0 ∷ []; gives = got 1 0x22 0x00 2 0x00 }
+    ∷ record { start = bench true; calls = plain 0 ∷ callMode 0 0xE0 ∷ callBusStart ∷ callBusResult 0x22 noCounts 0 ∷ callReceive 0 ∷ []; gives = got 0 0x22 0x00 2 0x00 }
+    ∷ record { start = bench true; calls = plain 0 ∷ callMode 0 0xE0 ∷ callBusStart ∷ callBusResult 0x22 noCounts 0 ∷ callReceive 0 ∷ callReceive 0 ∷ []; gives = got 1 0x22 0x00 2 0x00 }
     -- no wait without the OK bit
-    ∷ record { start = bench true; calls = asking 0 ∷ callBusStart ∷ callBusResult 0x20 noCounts ∷ callReceive 0 ∷ callTime 1000 ∷ callReceive 0 ∷ []; gives = EAGAIN ∷ [] }
+    ∷ record { start = bench true; calls = asking 0 ∷ callBusStart ∷ callBusResult 0x20 noCounts 0 ∷ callReceive 0 ∷ callTime 1000 ∷ callReceive 0 ∷ []; gives = EAGAIN ∷ [] }
     -- with the OK bit beside another
-    ∷ record { start = bench true; calls = asking 0 ∷ callBusStart ∷ callBusResult 0x05 noCounts ∷ callReceive 0 ∷ callTime 1000 ∷ callReceive 0 ∷ []; gives = got 1 0x00 0x02 2 0x90 }
+    ∷ record { start = bench true; calls = asking 0 ∷ callBusStart ∷ callBusResult 0x05 noCounts 0 ∷ callReceive 0 ∷ callTime 1000 ∷ callReceive 0 ∷ []; gives = got 1 0x00 0x02 2 0x90 }
     ∷ []
 
 -- time
@@ -260,8 +266,8 @@ messageAnswers =
     record { start = bench true; calls = incoming (0x0F ∷ replicate 15 0xA0) ∷ []; gives = 0 ∷ [] }
     ∷ record { start = bench true; calls = callMode 0 0xF0 ∷ incoming (0x0F ∷ replicate 15 0xA0) ∷ callReceive 0 ∷ []; gives = got 0 0x00 0x01 16 0x00 }
     ∷ record { start = bench true; calls = incoming (0x0F ∷ replicate 16 0xA0) ∷ []; gives = EINVAL ∷ [] }
-    ∷ record { start = bench true; calls = callMessage 17 (replicate 16 0) ∷ []; gives = EINVAL ∷ [] }
-    ∷ record { start = bench true; calls = callMessage 0 (replicate 16 0) ∷ []; gives = EINVAL ∷ [] }
+    ∷ record { start = bench true; calls = callMessage 17 (replicate 16 0) 0 ∷ []; gives = EINVAL ∷ [] }
+    ∷ record { start = bench true; calls = callMessage 0 (replicate 16 0) 0 ∷ []; gives = EINVAL ∷ [] }
     -- a reply is no follower's, unless the flag was set
     ∷ record { start = bench true; calls = callOpen true ∷ callMode 1 0x11 ∷ asking 0 ∷ callBusStart ∷ ok ∷ incoming (0x04 ∷ 0x90 ∷ 0x00 ∷ []) ∷ callReceive 1 ∷ []; gives = EAGAIN ∷ [] }
     ∷ record { start = bench true; calls = callOpen true ∷ callMode 1 0x11 ∷ sending (0x40 ∷ 0x8F ∷ []) 0x90 0 1 ∷ callBusStart ∷ ok ∷ incoming (0x04 ∷ 0x90 ∷ 0x00 ∷ []) ∷ callReceive 1 ∷ []; gives = got 0 0x00 0x01 3 0x00 }
@@ -473,4 +479,80 @@ replyAnswers =
     ∷ record { start = bench true; calls = callOpen true ∷ callMode 1 0x11 ∷ awaiting 0x8F 0x90 0 1 (incoming (0x04 ∷ 0x00 ∷ 0x8F ∷ 0x00 ∷ []) ∷ callReceive 1 ∷ []); gives = got 0 0x00 0x01 4 0x00 }
     -- a monitor's copy of the result of a transmit that wants a reply
     ∷ record { start = bench true; calls = asking 0 ∷ callMode 0 0xE0 ∷ callBusStart ∷ ok ∷ callReceive 0 ∷ []; gives = got 0 0x01 0x00 2 0x00 }
+    ∷ []
+
+-- document 02, W-208: a message from the TV to all, at a time; a question to it whose result comes at a time and is received; a second message on the wire; then other calls
+abbrev pub told : ℕ → Call
+told ts = incomingAt (0x0F ∷ 0x90 ∷ 0x00 ∷ []) ts
+
+abbrev pub askedAt : ℕ → List Call → List Call
+askedAt ts cs = sending (0x40 ∷ 0x8F ∷ []) 0x90 500 0 ∷ callBusStart ∷ okAt ts ∷ callReceive 0 ∷ cs
+
+abbrev pub onWire : List Call → List Call
+onWire cs = plain 0 ∷ callBusStart ∷ cs
+
+-- the times that an entry shows, and the clock
+abbrev pub timestampAnswers : List Case
+timestampAnswers =
+    -- a bus result and its copy show the sent time, those of a handle that was closed too
+    record { start = bench true; calls = onWire (okAt 5 ∷ callReceive 0 ∷ []); gives = gotAt 1 0x01 0x00 2 0x00 5 0 }
+    ∷ record { start = bench true; calls = onWire (callBusResult 0x20 noCounts 5 ∷ callReceive 0 ∷ []); gives = gotAt 1 0x20 0x00 2 0x00 5 0 }
+    ∷ record { start = bench true; calls = onWire (callMode 0 0xE0 ∷ okAt 5 ∷ callReceive 0 ∷ []); gives = gotAt 0 0x01 0x00 2 0x00 5 0 }
+    ∷ record { start = bench true; calls = onWire (callClose 0 ∷ callOpen true ∷ callMode 0 0xE0 ∷ okAt 5 ∷ callReceive 0 ∷ []); gives = gotAt 0 0x01 0x00 2 0x00 5 0 }
+    -- the copy of a message shows the received time: for a follower, an exclusive one, a monitor
+    ∷ record { start = bench true; calls = callMode 0 0x11 ∷ told 7 ∷ callReceive 0 ∷ []; gives = gotAt 0 0x00 0x01 3 0x00 0 7 }
+    ∷ record { start = bench true; calls = callMode 0 0x21 ∷ told 7 ∷ callReceive 0 ∷ []; gives = gotAt 0 0x00 0x01 3 0x00 0 7 }
+    ∷ record { start = bench true; calls = callMode 0 0xE0 ∷ told 7 ∷ callReceive 0 ∷ []; gives = gotAt 0 0x00 0x01 3 0x00 0 7 }
+    -- a reply and a Feature Abort show both, the sent one that of the transmit's own result
+    ∷ record { start = bench true; calls = askedAt 5 (told 7 ∷ callReceive 0 ∷ []); gives = gotAt 1 0x00 0x01 3 0x90 5 7 }
+    ∷ record { start = bench true; calls = askedAt 5 (told 5 ∷ callReceive 0 ∷ []); gives = gotAt 1 0x00 0x01 3 0x90 5 5 }
+    ∷ record { start = bench true; calls = askedAt 5 (incomingAt (0x04 ∷ 0x00 ∷ 0x8F ∷ 0x00 ∷ []) 7 ∷ callReceive 0 ∷ []); gives = gotAt 1 0x00 0x05 4 0x00 5 7 }
+    ∷ record { start = bench true; calls = askedAt 5 (askedAt 6 (told 7 ∷ callReceive 0 ∷ [])); gives = gotAt 1 0x00 0x01 3 0x90 5 7 }
+    ∷ record { start = bench true; calls = askedAt 5 (askedAt 6 (told 7 ∷ told 8 ∷ callReceive 0 ∷ callReceive 0 ∷ [])); gives = gotAt 2 0x00 0x01 3 0x90 6 8 }
+    -- the copy of a reply shows no sent time
+    ∷ record { start = bench true; calls = askedAt 5 (callMode 0 0xE0 ∷ told 7 ∷ callReceive 0 ∷ []); gives = gotAt 0 0x00 0x01 3 0x00 0 7 }
+    -- a timeout and an aborted wait show the sent time, each its own
+    ∷ record { start = bench true; calls = askedAt 5 (callTime 500 ∷ callReceive 0 ∷ []); gives = gotAt 1 0x00 0x02 2 0x90 5 0 }
+    ∷ record { start = bench true; calls = askedAt 5 (callUnconfigure ∷ callReceive 0 ∷ []); gives = gotAt 1 0x00 0x08 2 0x90 5 0 }
+    ∷ record { start = bench true; calls = askedAt 5 (askedAt 6 (incomingAt (0x0F ∷ []) 9 ∷ callTime 500 ∷ callReceive 0 ∷ callReceive 0 ∷ [])); gives = gotAt 2 0x00 0x02 2 0x90 6 0 }
+    -- a result of unconfigure shows 0, whatever the clock says
+    ∷ record { start = bench true; calls = told 7 ∷ plain 0 ∷ callUnconfigure ∷ callReceive 0 ∷ []; gives = gotAt 1 0x40 0x00 2 0x00 0 0 }
+    ∷ record { start = bench true; calls = told 7 ∷ onWire (callUnconfigure ∷ callReceive 0 ∷ []); gives = gotAt 1 0x40 0x00 2 0x00 0 0 }
+    -- a time below the last is refused, after a result and after a message; an equal one is fine
+    ∷ record { start = bench true; calls = onWire (okAt 5 ∷ onWire (okAt 4 ∷ [])); gives = EINVAL ∷ [] }
+    ∷ record { start = bench true; calls = onWire (okAt 5 ∷ onWire (okAt 5 ∷ [])); gives = 0 ∷ [] }
+    ∷ record { start = bench true; calls = onWire (told 5 ∷ okAt 4 ∷ []); gives = EINVAL ∷ [] }
+    ∷ record { start = bench true; calls = onWire (told 5 ∷ okAt 5 ∷ []); gives = 0 ∷ [] }
+    ∷ record { start = bench true; calls = told 5 ∷ told 4 ∷ []; gives = EINVAL ∷ [] }
+    ∷ record { start = bench true; calls = told 5 ∷ told 5 ∷ []; gives = 0 ∷ [] }
+    ∷ record { start = bench true; calls = onWire (okAt 5 ∷ told 4 ∷ []); gives = EINVAL ∷ [] }
+    ∷ record { start = bench true; calls = onWire (okAt 5 ∷ told 5 ∷ []); gives = 0 ∷ [] }
+    -- 64 bits
+    ∷ record { start = bench true; calls = told 18446744073709551615 ∷ told 18446744073709551614 ∷ []; gives = EINVAL ∷ [] }
+    ∷ record { start = bench true; calls = callMode 0 0x11 ∷ told 18446744073709551615 ∷ callReceive 0 ∷ []; gives = gotAt 0 0x00 0x01 3 0x00 0 18446744073709551615 }
+    -- what is refused by its time changes nothing: the wire stays taken, the wait waits on, nobody gets anything
+    ∷ record { start = bench true; calls = told 5 ∷ onWire (okAt 4 ∷ callBusStart ∷ []); gives = EBUSY ∷ [] }
+    ∷ record { start = bench true; calls = told 5 ∷ onWire (okAt 4 ∷ callReceive 0 ∷ []); gives = EAGAIN ∷ [] }
+    ∷ record { start = bench true; calls = told 5 ∷ onWire (okAt 4 ∷ okAt 6 ∷ callReceive 0 ∷ []); gives = gotAt 1 0x01 0x00 2 0x00 6 0 }
+    ∷ record { start = bench true; calls = askedAt 5 (told 4 ∷ callReceive 0 ∷ []); gives = EAGAIN ∷ [] }
+    ∷ record { start = bench true; calls = askedAt 5 (told 4 ∷ told 6 ∷ callReceive 0 ∷ []); gives = gotAt 1 0x00 0x01 3 0x90 5 6 }
+    ∷ record { start = bench true; calls = askedAt 5 (callMode 0 0xE0 ∷ told 4 ∷ callReceive 0 ∷ []); gives = EAGAIN ∷ [] }
+    -- and the clock stands: refused by its time, by its length, by its status, with nothing on the wire
+    ∷ record { start = bench true; calls = told 5 ∷ told 4 ∷ told 4 ∷ []; gives = EINVAL ∷ [] }
+    ∷ record { start = bench true; calls = told 5 ∷ callMessage 17 (replicate 16 0) 9 ∷ told 5 ∷ []; gives = 0 ∷ [] }
+    ∷ record { start = bench true; calls = onWire (callBusResult 0x21 noCounts 9 ∷ okAt 5 ∷ []); gives = 0 ∷ [] }
+    ∷ record { start = bench true; calls = okAt 9 ∷ told 5 ∷ []; gives = 0 ∷ [] }
+    -- every message that is accepted moves it: a poll, one to another address, one while unconfigured
+    ∷ record { start = bench true; calls = incomingAt (0x04 ∷ []) 5 ∷ told 4 ∷ []; gives = EINVAL ∷ [] }
+    ∷ record { start = bench true; calls = incomingAt (0x05 ∷ 0x90 ∷ []) 5 ∷ told 4 ∷ []; gives = EINVAL ∷ [] }
+    ∷ record { start = unconfigured; calls = told 5 ∷ told 4 ∷ []; gives = EINVAL ∷ [] }
+    -- and every result: a failure, one of a handle that was closed, one while unconfigured
+    ∷ record { start = bench true; calls = onWire (callBusResult 0x20 noCounts 5 ∷ told 4 ∷ []); gives = EINVAL ∷ [] }
+    ∷ record { start = bench true; calls = onWire (callClose 0 ∷ okAt 5 ∷ told 4 ∷ []); gives = EINVAL ∷ [] }
+    ∷ record { start = unconfigured; calls = callTransmit 0 (request (0xF0 ∷ 0x04 ∷ []) 0) ∷ callBusStart ∷ okAt 5 ∷ told 4 ∷ []; gives = EINVAL ∷ [] }
+    -- unconfigure keeps it, and so do a configure and elapsed time
+    ∷ record { start = bench true; calls = told 5 ∷ callUnconfigure ∷ told 4 ∷ []; gives = EINVAL ∷ [] }
+    ∷ record { start = bench true; calls = told 5 ∷ callUnconfigure ∷ told 5 ∷ []; gives = 0 ∷ [] }
+    ∷ record { start = bench true; calls = told 5 ∷ callUnconfigure ∷ callConfigure benchSettings ∷ told 4 ∷ []; gives = EINVAL ∷ [] }
+    ∷ record { start = bench true; calls = told 5 ∷ callTime 1000 ∷ told 5 ∷ []; gives = 0 ∷ [] }
     ∷ []

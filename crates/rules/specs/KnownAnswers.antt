@@ -14,8 +14,8 @@ knownAnswers =
     ∷ record { start = bench false; calls = callMode 0 0xE1 ∷ []; gives = EINVAL ∷ [] }
     ∷ record { start = bench false; calls = callMode 0 0xE0 ∷ []; gives = EPERM ∷ [] }
     ∷ record { start = bench true; calls = callTransmit 0 (request (0x44 ∷ []) 0) ∷ []; gives = 0 ∷ 1 ∷ 0x04 ∷ [] }
-    ∷ record { start = bench true; calls = asked (0x04 ∷ 0x90 ∷ 0x00 ∷ []); gives = 0 ∷ 1 ∷ 0 ∷ 0x01 ∷ 3 ∷ 0 ∷ 0 ∷ 0 ∷ 0 ∷ 0x90 ∷ [] }
-    ∷ record { start = bench true; calls = asked (0x04 ∷ 0x00 ∷ 0x8F ∷ 0x00 ∷ []); gives = 0 ∷ 1 ∷ 0 ∷ 0x05 ∷ 4 ∷ 0 ∷ 0 ∷ 0 ∷ 0 ∷ 0x00 ∷ [] }
+    ∷ record { start = bench true; calls = asked (0x04 ∷ 0x90 ∷ 0x00 ∷ []); gives = 0 ∷ 1 ∷ 0 ∷ 0x01 ∷ 3 ∷ 0 ∷ 0 ∷ 0 ∷ 0 ∷ 0x90 ∷ 0 ∷ 0 ∷ [] }
+    ∷ record { start = bench true; calls = asked (0x04 ∷ 0x00 ∷ 0x8F ∷ 0x00 ∷ []); gives = 0 ∷ 1 ∷ 0 ∷ 0x05 ∷ 4 ∷ 0 ∷ 0 ∷ 0 ∷ 0 ∷ 0x00 ∷ 0 ∷ 0 ∷ [] }
     ∷ record { start = bench true; calls = asked (0x04 ∷ 0x00 ∷ []); gives = EAGAIN ∷ [] }
     ∷ record { start = bench true; calls = asked (0x54 ∷ 0x90 ∷ 0x00 ∷ []); gives = EAGAIN ∷ [] }
     ∷ record { start = bench true; calls = resulting 0x21; gives = EINVAL ∷ [] }

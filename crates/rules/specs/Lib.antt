@@ -4,6 +4,7 @@ pub mod Owed
 pub mod Derived
 pub mod Deliver
 pub mod Call
+pub mod Clock
 pub mod Open
 pub mod Close
 pub mod Mode
@@ -23,6 +24,7 @@ pub mod Tracker
 pub mod Lookup
 pub mod Listing
 pub mod Step
+pub mod Timestamps
 pub mod Cases
 pub mod KnownAnswers
 pub mod FurtherAnswers

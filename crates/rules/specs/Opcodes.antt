@@ -20,17 +20,17 @@ use Rattle.wait.specs.declared.Wait.{Wait}
 
 pub record OpcodesByKind : Type 0 where
   -- "Results and copies show 0."
-  pub results : (n status : ℕ) (c : Counts) (m : Message) → result n status c m .reply ≡ 0
+  pub results : (n status : ℕ) (c : Counts) (m : Message) (ts : ℕ) → result n status c m ts .reply ≡ 0
   pub abortedResults : (t : Transmission) → abortedResult t .reply ≡ 0
-  pub resultCopies : (status : ℕ) (c : Counts) (m : Message) → resultCopy status c m .reply ≡ 0
-  pub messageCopies : (m : Message) → messageCopy m .reply ≡ 0
+  pub resultCopies : (status : ℕ) (c : Counts) (m : Message) (ts : ℕ) → resultCopy status c m ts .reply ≡ 0
+  pub messageCopies : (m : Message) (ts : ℕ) → messageCopy m ts .reply ≡ 0
   -- "timeouts and aborted waits show the wanted one"
   pub timeouts : (w : Wait) → timeoutEntry w .reply ≡ w .reply
   pub abortedWaits : (w : Wait) → abortEntry w .reply ≡ w .reply
-  -- "Each reply entry also shows the opcode that really came", under any number
-  pub replies : (n : ℕ) (m : Message) (w : Wait) → answeredBy m w ≡ true → replyEntry n m .reply ≡ getD (contents m) 1 0
+  -- "Each reply entry also shows the opcode that really came"
+  pub replies : (m : Message) (w : Wait) (ts : ℕ) → answeredBy m w ≡ true → replyEntry w m ts .reply ≡ getD (contents m) 1 0
   -- so it tells the rule: 0x00, the opcode wanted, or the other of the pair
-  pub rules : (n : ℕ) (m : Message) (w : Wait) → answeredBy m w ≡ true
-      → ruleFor m w ≡ firstRule (isFeatureAbort (replyEntry n m .reply)) (isWanted (replyEntry n m .reply) (w .reply)) true
+  pub rules : (m : Message) (w : Wait) (ts : ℕ) → answeredBy m w ≡ true
+      → ruleFor m w ≡ firstRule (isFeatureAbort (replyEntry w m ts .reply)) (isWanted (replyEntry w m ts .reply) (w .reply)) true
   -- and rx_status is 0x05 exactly for rule 1
-  pub statuses : (n : ℕ) (m : Message) (w : Wait) → answeredBy m w ≡ true → replyEntry n m .«rx_status» ≡ cond (eqb (ruleFor m w) RULE-FEATURE-ABORT) 0x05 0x01
+  pub statuses : (m : Message) (w : Wait) (ts : ℕ) → answeredBy m w ≡ true → replyEntry w m ts .«rx_status» ≡ cond (eqb (ruleFor m w) RULE-FEATURE-ABORT) 0x05 0x01

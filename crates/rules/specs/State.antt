@@ -16,7 +16,7 @@ pub record Capabilities : Type 0 where
   pub transmit : Bool
   pub monitorAll : Bool
 
--- "8 handles", "A transmit queue of 18 messages", "a wire that holds at most one more", "An inbox of 16 entries per handle", "Waits", the settings, "one noted physical address for each of 0 to 14", the last sequence number given, and the active address of the routing tracker (document 02, W-205)
+-- "8 handles", "A transmit queue of 18 messages", "a wire that holds at most one more", "An inbox of 16 entries per handle", "Waits", the settings, "one noted physical address for each of 0 to 14", the last sequence number given, the active address of the routing tracker (document 02, W-205), and the clock: the time of the last bus result or message that was accepted, in nanoseconds (W-208)
 pub record State : Type 0 where
   pub capabilities : Capabilities
   pub handles : List Handle
@@ -28,6 +28,7 @@ pub record State : Type 0 where
   pub settings : Settings
   pub noted : List ℕ
   pub active : ℕ
+  pub clock : ℕ
 
 -- a handle number that is not open
 abbrev pub closedHandle : Handle
@@ -52,7 +53,7 @@ noSettings = record {
 abbrev pub noneNoted : List ℕ
 noneNoted = replicate 15 CEC-PHYS-ADDR-INVALID
 
--- "A fresh adapter is as unconfigure leaves it, all handles closed, queue and wire empty, its last sequence number 0."
+-- "A fresh adapter is as unconfigure leaves it, all handles closed, queue and wire empty, its last sequence number 0."; the clock is "0 at first" (document 02, W-208)
 unfoldable pub fresh : Capabilities → State
 fresh c = record {
   capabilities = c;
@@ -65,32 +66,36 @@ fresh c = record {
   settings = noSettings;
   noted = noneNoted;
   active = CEC-PHYS-ADDR-INVALID;
+  clock = 0;
 }
 
 -- the state with one part changed
 abbrev pub withHandles : State → List Handle → State
-withHandles s x = record { capabilities = s .capabilities; handles = x; inboxes = s .inboxes; queue = s .queue; wire = s .wire; waits = s .waits; last = s .last; settings = s .settings; noted = s .noted; active = s .active }
+withHandles s x = record { capabilities = s .capabilities; handles = x; inboxes = s .inboxes; queue = s .queue; wire = s .wire; waits = s .waits; last = s .last; settings = s .settings; noted = s .noted; active = s .active; clock = s .clock }
 
 abbrev pub withInboxes : State → List (List Entry) → State
-withInboxes s x = record { capabilities = s .capabilities; handles = s .handles; inboxes = x; queue = s .queue; wire = s .wire; waits = s .waits; last = s .last; settings = s .settings; noted = s .noted; active = s .active }
+withInboxes s x = record { capabilities = s .capabilities; handles = s .handles; inboxes = x; queue = s .queue; wire = s .wire; waits = s .waits; last = s .last; settings = s .settings; noted = s .noted; active = s .active; clock = s .clock }
 
 abbrev pub withQueue : State → List Transmission → State
-withQueue s x = record { capabilities = s .capabilities; handles = s .handles; inboxes = s .inboxes; queue = x; wire = s .wire; waits = s .waits; last = s .last; settings = s .settings; noted = s .noted; active = s .active }
+withQueue s x = record { capabilities = s .capabilities; handles = s .handles; inboxes = s .inboxes; queue = x; wire = s .wire; waits = s .waits; last = s .last; settings = s .settings; noted = s .noted; active = s .active; clock = s .clock }
 
 abbrev pub withWire : State → List Transmission → State
-withWire s x = record { capabilities = s .capabilities; handles = s .handles; inboxes = s .inboxes; queue = s .queue; wire = x; waits = s .waits; last = s .last; settings = s .settings; noted = s .noted; active = s .active }
+withWire s x = record { capabilities = s .capabilities; handles = s .handles; inboxes = s .inboxes; queue = s .queue; wire = x; waits = s .waits; last = s .last; settings = s .settings; noted = s .noted; active = s .active; clock = s .clock }
 
 abbrev pub withWaits : State → List Wait → State
-withWaits s x = record { capabilities = s .capabilities; handles = s .handles; inboxes = s .inboxes; queue = s .queue; wire = s .wire; waits = x; last = s .last; settings = s .settings; noted = s .noted; active = s .active }
+withWaits s x = record { capabilities = s .capabilities; handles = s .handles; inboxes = s .inboxes; queue = s .queue; wire = s .wire; waits = x; last = s .last; settings = s .settings; noted = s .noted; active = s .active; clock = s .clock }
 
 abbrev pub withLast : State → ℕ → State
-withLast s x = record { capabilities = s .capabilities; handles = s .handles; inboxes = s .inboxes; queue = s .queue; wire = s .wire; waits = s .waits; last = x; settings = s .settings; noted = s .noted; active = s .active }
+withLast s x = record { capabilities = s .capabilities; handles = s .handles; inboxes = s .inboxes; queue = s .queue; wire = s .wire; waits = s .waits; last = x; settings = s .settings; noted = s .noted; active = s .active; clock = s .clock }
 
 abbrev pub withSettings : State → Settings → State
-withSettings s x = record { capabilities = s .capabilities; handles = s .handles; inboxes = s .inboxes; queue = s .queue; wire = s .wire; waits = s .waits; last = s .last; settings = x; noted = s .noted; active = s .active }
+withSettings s x = record { capabilities = s .capabilities; handles = s .handles; inboxes = s .inboxes; queue = s .queue; wire = s .wire; waits = s .waits; last = s .last; settings = x; noted = s .noted; active = s .active; clock = s .clock }
 
 abbrev pub withNoted : State → List ℕ → State
-withNoted s x = record { capabilities = s .capabilities; handles = s .handles; inboxes = s .inboxes; queue = s .queue; wire = s .wire; waits = s .waits; last = s .last; settings = s .settings; noted = x; active = s .active }
+withNoted s x = record { capabilities = s .capabilities; handles = s .handles; inboxes = s .inboxes; queue = s .queue; wire = s .wire; waits = s .waits; last = s .last; settings = s .settings; noted = x; active = s .active; clock = s .clock }
 
 abbrev pub withActive : State → ℕ → State
-withActive s x = record { capabilities = s .capabilities; handles = s .handles; inboxes = s .inboxes; queue = s .queue; wire = s .wire; waits = s .waits; last = s .last; settings = s .settings; noted = s .noted; active = x }
+withActive s x = record { capabilities = s .capabilities; handles = s .handles; inboxes = s .inboxes; queue = s .queue; wire = s .wire; waits = s .waits; last = s .last; settings = s .settings; noted = s .noted; active = x; clock = s .clock }
+
+abbrev pub withClock : State → ℕ → State
+withClock s x = record { capabilities = s .capabilities; handles = s .handles; inboxes = s .inboxes; queue = s .queue; wire = s .wire; waits = s .waits; last = s .last; settings = s .settings; noted = s .noted; active = s .active; clock = x }

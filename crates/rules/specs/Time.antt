@@ -22,9 +22,9 @@ overdue ms ws = sort leftOf (keep (λ w. leb (leftOf w) ms) ws)
 abbrev pub remaining : ℕ → List Wait → List Wait
 remaining ms ws = map (reduced ms) (keep (λ w. not (leb (leftOf w) ms)) ws)
 
--- "with an entry of its number, rx_status 0x02, and the sent length and bytes", and the opcode wanted (document 02, W-207)
+-- "with an entry of its number, rx_status 0x02, and the sent length and bytes", the opcode wanted (document 02, W-207) and the sent time (W-208)
 abbrev pub timeoutEntry : Wait → Entry
-timeoutEntry w = timedOut (w .sequence) (w .sent) (w .reply)
+timeoutEntry w = timedOut (w .sequence) (w .sent) (w .reply) (w .«tx_ts»)
 
 abbrev pub timeOut : State → Wait → State
 timeOut s w = deliver s (w .owner) (timeoutEntry w)

@@ -13,7 +13,7 @@ use Rattle.route.specs.Address.{isWellFormed}
 use Rattle.rules.specs.Call.{Outcome, finish, unless, Answer, Call, callOpen, callClose, callMode, callTransmit, callReceive, callBusStart, callBusResult, callMessage, callTime, callConfigure, callUnconfigure, callListing, callLookup, callActiveAddress}
 use Rattle.rules.specs.Handles.{isConfigured}
 use Rattle.rules.specs.Incoming.{incomingRefusal, heard}
-use Rattle.rules.specs.State.{State, withActive}
+use Rattle.rules.specs.State.{State, withActive, withClock}
 
 -- a message of this opcode and length
 abbrev pub isOf : ℕ → ℕ → Message → Bool
@@ -42,11 +42,11 @@ tracked active m = cond (setsActive m) (namedAddress m) (cond (clearsActive acti
 abbrev pub activeAfterMessage : State → Message → ℕ
 activeAfterMessage s m = cond (isConfigured s) (tracked (s .active) m) (s .active)
 
--- a message from the wire: document 01's six steps, and the tracker
-unfoldable pub doMessage : State → ℕ → List ℕ → Outcome
-doMessage s n bytes =
+-- a message from the wire: document 01's six steps, the tracker, and the clock (W-208)
+unfoldable pub doMessage : State → ℕ → List ℕ → ℕ → Outcome
+doMessage s n bytes ts =
     let m = message n bytes in
-    unless (incomingRefusal n) s (finish Answer.done (withActive (heard s m) (activeAfterMessage s m)))
+    unless (incomingRefusal (s .clock) n ts) s (finish Answer.done (withClock (withActive (heard s m ts) (activeAfterMessage s m)) ts))
 
 -- "One call gives the active address, 0xFFFF for none."
 abbrev pub doActiveAddress : State → Outcome
@@ -60,8 +60,8 @@ activeAfterCall s (callMode h mode) = s .active
 activeAfterCall s (callTransmit h r) = s .active
 activeAfterCall s (callReceive h) = s .active
 activeAfterCall s callBusStart = s .active
-activeAfterCall s (callBusResult status counts) = s .active
-activeAfterCall s (callMessage n bytes) = cond (eqb (incomingRefusal n) 0) (activeAfterMessage s (message n bytes)) (s .active)
+activeAfterCall s (callBusResult status counts ts) = s .active
+activeAfterCall s (callMessage n bytes ts) = cond (eqb (incomingRefusal (s .clock) n ts) 0) (activeAfterMessage s (message n bytes)) (s .active)
 activeAfterCall s (callTime ms) = s .active
 activeAfterCall s (callConfigure x) = s .active
 activeAfterCall s callUnconfigure = CEC-PHYS-ADDR-INVALID

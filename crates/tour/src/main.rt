@@ -1,4 +1,5 @@
 // The camera program and the chart program share one wire, later with a controller. Each line says which program got what, under which number, and where the picture is.
+ghost use Prim.Native.Nat.{_≤_};
 use adapter::Adapter;
 use constants::CEC_LOG_ADDR_BROADCAST;
 use constants::CEC_LOG_ADDR_UNREGISTERED;
@@ -44,6 +45,8 @@ const CHART: u8 = 1;
 const MONITOR: u8 = 2;
 
 const CONTROLLER: u8 = 3;
+
+const NANOSECONDS_PER_MS: u64 = 1000000;
 
 fn say(text: &[u8]) {
     io::write_all(1, text);
@@ -135,6 +138,11 @@ fn asked(adapter: Adapter, handle: u8, device: u8) -> Adapter {
     )
 }
 
+// The driver's clock, for the adapter.
+fn nanoseconds(ms: u32) -> u64 {
+    ms as u64 * NANOSECONDS_PER_MS
+}
+
 fn started(adapter: Adapter) -> Adapter {
     let answer = adapter.bus_start();
     say_number(b"wire: start, errno ", answer.errno);
@@ -142,26 +150,26 @@ fn started(adapter: Adapter) -> Adapter {
     answer.adapter
 }
 
-fn ended(adapter: Adapter, status: u8, counts: Counts) -> Adapter {
-    let answer = adapter.bus_result(status, counts);
+fn ended(adapter: Adapter, status: u8, counts: Counts, ms: u32) -> Adapter {
+    let answer = adapter.bus_result(status, counts, nanoseconds(ms));
     say_number(b"; result, errno ", answer.errno);
     say_number(b", status ", status as u32);
     say(b"\n");
     answer.adapter
 }
 
-// The next message goes out and comes to its end.
-fn sent(adapter: Adapter, status: u8, counts: Counts) -> Adapter {
-    ended(started(adapter), status, counts)
+// The next message goes out and comes to its end, when the driver's clock shows these milliseconds.
+fn sent(adapter: Adapter, status: u8, counts: Counts, ms: u32) -> Adapter {
+    ended(started(adapter), status, counts, ms)
 }
 
 // A message of three bytes comes from the wire.
-fn came(adapter: Adapter, from: u8, to: u8, opcode: u8, third: u8) -> Adapter {
+fn came(adapter: Adapter, from: u8, to: u8, opcode: u8, third: u8, ms: u32) -> Adapter {
     let mut bytes = [0; 16];
     bytes[0] = from % 16 * 16 + to % 16;
     bytes[1] = opcode;
     bytes[2] = third;
-    adapter.received(3, bytes).adapter
+    adapter.received(3, bytes, nanoseconds(ms)).adapter
 }
 
 fn say_message(from: u8, opcode: u8) {
@@ -171,9 +179,9 @@ fn say_message(from: u8, opcode: u8) {
 }
 
 // A device answers the box.
-fn answered(adapter: Adapter, from: u8, opcode: u8, third: u8) -> Adapter {
+fn answered(adapter: Adapter, from: u8, opcode: u8, third: u8, ms: u32) -> Adapter {
     say_message(from, opcode);
-    came(adapter, from, BOX, opcode, third)
+    came(adapter, from, BOX, opcode, third, ms)
 }
 
 fn say_entry(entry: Entry) {
@@ -206,33 +214,29 @@ fn passed(adapter: Adapter, ms: u32) -> Adapter {
     adapter.time_passed(ms).adapter
 }
 
-// The display tells all devices of a menu, three times.
-fn three_told(adapter: Adapter) -> Adapter {
-    let one = came(
+// The display tells all devices of a menu.
+fn told(adapter: Adapter, ms: u32) -> Adapter {
+    came(
         adapter,
         DISPLAY,
         CEC_LOG_ADDR_BROADCAST,
         SET_MENU_LANGUAGE,
         0x65,
-    );
-    let two = came(
-        one,
-        DISPLAY,
-        CEC_LOG_ADDR_BROADCAST,
-        SET_MENU_LANGUAGE,
-        0x65,
-    );
-    came(
-        two,
-        DISPLAY,
-        CEC_LOG_ADDR_BROADCAST,
-        SET_MENU_LANGUAGE,
-        0x65,
+        ms,
     )
 }
 
-fn nine_told(adapter: Adapter) -> Adapter {
-    three_told(three_told(three_told(adapter)))
+// It does so again every 80 ms.
+fn three_told(adapter: Adapter, ms: u32) -> Adapter
+    requires { ⌜ ms ≤ 20000 ⌝ }
+{
+    told(told(told(adapter, ms), ms + 80), ms + 160)
+}
+
+fn nine_told(adapter: Adapter, ms: u32) -> Adapter
+    requires { ⌜ ms ≤ 10000 ⌝ }
+{
+    three_told(three_told(three_told(adapter, ms), ms + 240), ms + 480)
 }
 
 // Each program reads what it has, oldest first.
@@ -250,7 +254,7 @@ fn woken(adapter: Adapter) -> Adapter {
         CAMERA,
         request(CEC_LOG_ADDR_UNREGISTERED, DISPLAY, CEC_MSG_IMAGE_VIEW_ON, 0),
     );
-    now = sent(now, CEC_TX_STATUS_OK, Counts::none());
+    now = sent(now, CEC_TX_STATUS_OK, Counts::none(), 100);
     received(now, CAMERA)
 }
 
@@ -258,10 +262,10 @@ fn woken(adapter: Adapter) -> Adapter {
 fn replies(adapter: Adapter) -> Adapter {
     let mut now = asked(adapter, CAMERA, DISPLAY);
     now = asked(now, CHART, AMPLIFIER);
-    now = sent(now, CEC_TX_STATUS_OK, Counts::none());
-    now = sent(now, CEC_TX_STATUS_OK, Counts::none());
-    now = answered(now, AMPLIFIER, CEC_MSG_REPORT_POWER_STATUS, 0);
-    now = answered(now, DISPLAY, CEC_MSG_REPORT_POWER_STATUS, 1);
+    now = sent(now, CEC_TX_STATUS_OK, Counts::none(), 1000);
+    now = sent(now, CEC_TX_STATUS_OK, Counts::none(), 1060);
+    now = answered(now, AMPLIFIER, CEC_MSG_REPORT_POWER_STATUS, 0, 1200);
+    now = answered(now, DISPLAY, CEC_MSG_REPORT_POWER_STATUS, 1, 1280);
     now = read_out(now);
     received(received(now, CAMERA), CHART)
 }
@@ -270,14 +274,15 @@ fn replies(adapter: Adapter) -> Adapter {
 fn no_replies(adapter: Adapter) -> Adapter {
     let mut now = asked(adapter, CAMERA, DISPLAY);
     now = asked(now, CHART, AMPLIFIER);
-    now = sent(now, CEC_TX_STATUS_OK, Counts::none());
-    now = sent(now, CEC_TX_STATUS_OK, Counts::none());
+    now = sent(now, CEC_TX_STATUS_OK, Counts::none(), 2000);
+    now = sent(now, CEC_TX_STATUS_OK, Counts::none(), 2060);
     now = passed(now, 999);
     now = answered(
         now,
         AMPLIFIER,
         CEC_MSG_FEATURE_ABORT,
         CEC_MSG_GIVE_DEVICE_POWER_STATUS,
+        3059,
     );
     now = passed(now, 1);
     read_out(now)
@@ -288,7 +293,12 @@ fn refused(adapter: Adapter) -> Adapter {
     let mut counts = Counts::none();
     counts.nack = 5;
     let mut now = asked(adapter, CHART, AMPLIFIER);
-    now = sent(now, CEC_TX_STATUS_NACK | CEC_TX_STATUS_MAX_RETRIES, counts);
+    now = sent(
+        now,
+        CEC_TX_STATUS_NACK | CEC_TX_STATUS_MAX_RETRIES,
+        counts,
+        4000,
+    );
     received(received(now, CHART), CHART)
 }
 
@@ -321,7 +331,8 @@ fn listed(adapter: Adapter) {
 
 // A monitor has room for 16 copies; the listing says how many it lost.
 fn watched(adapter: Adapter) -> Adapter {
-    let now = nine_told(nine_told(in_mode(opened(adapter, true), MONITOR, CEC_MODE_MONITOR)));
+    let watching = in_mode(opened(adapter, true), MONITOR, CEC_MODE_MONITOR);
+    let now = nine_told(nine_told(watching, 7000), 7720);
     say(b"wire: 18 messages from 0 to all\n");
     listed(now);
     received(received(now, MONITOR), CAMERA)
@@ -332,7 +343,9 @@ fn version_asked(adapter: Adapter) -> Adapter {
     let question = request(DISPLAY, BOX, CEC_MSG_GET_CEC_VERSION, 0);
     let bytes = question.bytes;
     say_message(DISPLAY, CEC_MSG_GET_CEC_VERSION);
-    adapter.received(question.length, bytes).adapter
+    adapter
+        .received(question.length, bytes, nanoseconds(9000))
+        .adapter
 }
 
 // The controller tells it.
@@ -353,7 +366,7 @@ fn controlled(adapter: Adapter) -> Adapter {
     now = in_mode(now, CAMERA, CEC_MODE_EXCL_INITIATOR);
     now = received(version_asked(now), CONTROLLER);
     now = asked(now, CHART, AMPLIFIER);
-    now = sent(version_told(now), CEC_TX_STATUS_OK, Counts::none());
+    now = sent(version_told(now), CEC_TX_STATUS_OK, Counts::none(), 9100);
     now = received(now, CONTROLLER);
     in_mode(now, CAMERA, CEC_MODE_INITIATOR)
 }
@@ -372,7 +385,7 @@ fn reported(adapter: Adapter) -> Adapter {
     bytes[0] = AMPLIFIER * 16 + CEC_LOG_ADDR_BROADCAST;
     bytes[1] = CEC_MSG_REPORT_PHYSICAL_ADDR;
     bytes[2] = 0x20;
-    let answer = adapter.received(5, bytes);
+    let answer = adapter.received(5, bytes, nanoseconds(5000));
     looked_up(answer.adapter, AMPLIFIER);
     looked_up(answer.adapter, CEC_LOG_ADDR_BROADCAST);
     answer.adapter
@@ -416,7 +429,7 @@ fn pictured(adapter: Adapter) -> Adapter {
     bytes[1] = CEC_MSG_ROUTING_CHANGE;
     bytes[2] = 0x10;
     bytes[4] = 0x21;
-    let changed = adapter.received(6, bytes);
+    let changed = adapter.received(6, bytes, nanoseconds(6000));
     say_message(AMPLIFIER, CEC_MSG_ROUTING_CHANGE);
     say_picture(changed.adapter);
     say_way(0x0000, 0x2100);
@@ -424,7 +437,7 @@ fn pictured(adapter: Adapter) -> Adapter {
     say_way(0x1000, 0x2100);
     bytes[0] = CEC_LOG_ADDR_BROADCAST;
     bytes[1] = CEC_MSG_SET_STREAM_PATH;
-    let asked = changed.adapter.received(4, bytes);
+    let asked = changed.adapter.received(4, bytes, nanoseconds(6200));
     say_message(DISPLAY, CEC_MSG_SET_STREAM_PATH);
     say_picture(asked.adapter);
     asked.adapter
@@ -443,6 +456,7 @@ fn unconfigured(adapter: Adapter) -> Adapter {
         asked(adapter, CAMERA, DISPLAY),
         CEC_TX_STATUS_OK,
         Counts::none(),
+        10000,
     );
     let now = read_out(address_gone(asked(waiting, CHART, AMPLIFIER)));
     asked(now, CHART, AMPLIFIER)

@@ -23,7 +23,7 @@ use wait::Wait;
 use waits::Waits;
 use wire::Wire;
 
-// The result of a transmit that ends with tx_status 0x40, for its owner.
+// The result of a transmit that ends with tx_status 0x40, for its owner. No bus result came, so it shows no time.
 fn abort_transmit(inboxes: Inboxes, sent: Transmission) -> Inboxes
     ensures { λ r. ⌜ inboxesOf r ≡ delivered (inboxesOf inboxes) (sent .owner) (abortedResult sent) ⌝ }
 {
@@ -34,6 +34,7 @@ fn abort_transmit(inboxes: Inboxes, sent: Transmission) -> Inboxes
             CEC_TX_STATUS_ABORTED,
             Counts::none(),
             sent.message,
+            0,
         ),
     )
 }
@@ -61,13 +62,13 @@ fn abort_queue(inboxes: Inboxes, queue: Queue) -> Inboxes
     after
 }
 
-// The reply entry of a wait that ends: its number, rx_status 0x08, the sent length and bytes, and the opcode wanted.
+// The reply entry of a wait that ends: its number, rx_status 0x08, the sent length, bytes and time, and the opcode wanted.
 fn abort_wait(inboxes: Inboxes, wait: Wait) -> Inboxes
     ensures { λ r. ⌜ inboxesOf r ≡ delivered (inboxesOf inboxes) (wait .owner) (abortEntry wait) ⌝ }
 {
     inboxes.put(
         wait.owner,
-        Entry::aborted(wait.sequence, wait.sent, wait.reply),
+        Entry::aborted(wait.sequence, wait.sent, wait.reply, wait.tx_ts),
     )
 }
 
@@ -94,7 +95,7 @@ fn abort(inboxes: Inboxes, queue: Queue, wire: Wire, waits: Waits) -> Inboxes
     abort_waits(after_queue, waits)
 }
 
-// All that is on its way ends; address 0xFFFF, mask 0, noted addresses and the active one cleared, the other settings 0.
+// All that is on its way ends; address 0xFFFF, mask 0, noted addresses and the active one cleared, the other settings 0. The clock stays.
 pub fn unconfigure(parts: Parts) -> Done
     ensures { λ r. ⌜ doneOf r ≡ doUnconfigure (stateOf parts) ⌝ }
 {

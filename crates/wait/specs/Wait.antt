@@ -1,4 +1,4 @@
--- A wait for the reply to a message that was sent (document 01, "Wire, time and configuration").
+-- A wait for the reply to a message that was sent (document 01, "Wire, time and configuration"), with the time of its bus result (document 02, W-208).
 -- Assumes nothing.
 use Prim.Native.Nat.{ℕ, _-_}
 use mathlib.Core.Bool.{Bool, false}
@@ -10,7 +10,7 @@ use Rattle.message.specs.declared.Message.{Message}
 use Rattle.wait.specs.declared.Wait.{Wait}
 
 abbrev pub noWait : Wait
-noWait = record { owner = 0; sequence = 0; left = 0; reply = 0; «to_followers» = false; sent = noMessage }
+noWait = record { owner = 0; sequence = 0; left = 0; reply = 0; «to_followers» = false; sent = noMessage; «tx_ts» = 0 }
 
 abbrev pub ownedBy : ℕ → Wait → Bool
 ownedBy h w = eqb (w .owner) h
@@ -32,4 +32,4 @@ leftOf w = w .left
 
 -- with its time left reduced
 abbrev pub reduced : ℕ → Wait → Wait
-reduced ms w = record { owner = w .owner; sequence = w .sequence; left = w .left - ms; reply = w .reply; «to_followers» = w .«to_followers»; sent = w .sent }
+reduced ms w = record { owner = w .owner; sequence = w .sequence; left = w .left - ms; reply = w .reply; «to_followers» = w .«to_followers»; sent = w .sent; «tx_ts» = w .«tx_ts» }

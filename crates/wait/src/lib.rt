@@ -1,4 +1,4 @@
-// A wait for the reply to a message that was sent.
+// A wait for the reply to a message that was sent, with the time of its bus result in nanoseconds.
 ghost use Prim.Native.Nat.{_≤_};
 ghost use mathlib.Core.Path.{_≡_};
 ghost use Rattle.lists.specs.Tests.{bit};
@@ -13,6 +13,7 @@ pub struct Wait {
     pub reply: u8,
     pub to_followers: bool,
     pub sent: Message,
+    pub tx_ts: u64,
 }
 
 impl Wait {
@@ -26,6 +27,7 @@ impl Wait {
             reply: 0,
             to_followers: false,
             sent: Message::new(0, [0; 16]),
+            tx_ts: 0,
         }
     }
 

@@ -19,4 +19,4 @@ withSlots w l = record { slots = l; count = w .count }
 
 -- what stands past the end of an array
 abbrev pub zeroWait : Wait
-zeroWait = record { owner = 0; sequence = 0; left = 0; reply = 0; «to_followers» = false; sent = record { length = 0; bytes = [] } }
+zeroWait = record { owner = 0; sequence = 0; left = 0; reply = 0; «to_followers» = false; sent = record { length = 0; bytes = [] }; «tx_ts» = 0 }

@@ -14,7 +14,7 @@ use Rattle.parts.specs.Parts.{orRefused, stateOf}
 use Rattle.rules.specs.BusResult.{begun, concluded, doBusResult}
 use Rattle.rules.specs.Call.{Answer, finish}
 use Rattle.rules.specs.Deliver.{deliver}
-use Rattle.rules.specs.State.{State, withWaits, withWire}
+use Rattle.rules.specs.State.{State, withClock, withWaits, withWire}
 use Rattle.transmission.specs.declared.Transmission.{Transmission}
 use Rattle.wait.specs.declared.Wait.{Wait}
 use Rattle.bus_result.proofs.bus_result.Statement.{statement}
@@ -47,14 +47,14 @@ cast-h c = search needs
 result-requires : tie.Need-result-requires
 result-requires c κs = search needs
 
-mul-t24 : tie.Need-mul-t24
-mul-t24 c = search needs
+mul-t25 : tie.Need-mul-t25
+mul-t25 c = search needs
 
-add-t25 : tie.Need-add-t25
-add-t25 c = search needs
+add-t26 : tie.Need-add-t26
+add-t26 c = search needs
 
-mul-t26 : tie.Need-mul-t26
-mul-t26 c = search needs
+mul-t27 : tie.Need-mul-t27
+mul-t27 c = search needs
 
 element-set-from-parts : tie.Need-element-set-from-parts
 element-set-from-parts c = room-within _ _ (c .before .if3 .taken) .2
@@ -99,19 +99,20 @@ module _ (c : tie.Joined2) where
 
   -- the monitors have their copies
   abbrev seen : State
-  seen = watched (stateOf (start .args .t1)) sent (start .args .status) (keeps .kept-counts .result)
+  seen = watched (stateOf (start .args .t1)) sent (start .args .status) (keeps .kept-counts .result) (start .args .ts)
 
   abbrev answer : Entry
-  answer = resultFor (stateOf (start .args .t1)) sent (start .args .status) (keeps .kept-counts .result)
+  answer = resultFor (stateOf (start .args .t1)) sent (start .args .status) (keeps .kept-counts .result) (start .args .ts)
 
   copied : LongParts (c .if2 .parts) × (stateOf (c .if2 .parts) ≡ seen)
   copied =
       let p = start .args .t1 in
       let n = start .args .status in
       let k = keeps .kept-counts .result in
+      let ts = start .args .ts in
       ⊎-elim
-      (λ w. (rw (w .3) (parts-long (w .2 .result) _ (w .2 .ok)), ap stateOf (w .3) ∙ watched-some (stateOf p) sent n k _ _ (w .1 .ensures) (w .2 .ensures .0)))
-      (λ w. (rw (w .1) (parts-long p _ (start .good .0)), ap stateOf (w .1) ∙ watched-none (stateOf p) sent n k _ (c .before .has .ensures) (w .0 .left)))
+      (λ w. (rw (w .3) (parts-long (w .2 .result) _ (w .2 .ok)), ap stateOf (w .3) ∙ watched-some (stateOf p) sent n k ts _ _ (w .1 .ensures) (w .2 .ensures .0)))
+      (λ w. (rw (w .1) (parts-long p _ (start .good .0)), ap stateOf (w .1) ∙ watched-none (stateOf p) sent n k ts _ (c .before .has .ensures) (w .0 .left)))
       (c .if2 .came)
 
 module _ (c : tie.Joined3) where
@@ -130,17 +131,17 @@ module _ (c : tie.Joined3) where
   -- the call's end, with the wire and the waits that follow
   ends : (wire : List Transmission) (waits : List Wait) → let a = start watching .args in
       wire ≡ drop 1 (stateOf (c .if3 .parts) .wire)
-      → waits ≡ begun (a .status) (sent watching) (stateOf (c .if3 .parts) .waits)
-      → finish (orRefused (accepted watching .before .bus-result-errno .result) Answer.done) (withWaits (withWire (stateOf (c .if3 .parts)) wire) waits)
-      ≡ doBusResult (stateOf (a .t1)) (a .status) (a .counts)
+      → waits ≡ begun (a .status) (sent watching) (a .ts) (stateOf (c .if3 .parts) .waits)
+      → finish (orRefused (accepted watching .before .bus-result-errno .result) Answer.done) (withClock (withWaits (withWire (stateOf (c .if3 .parts)) wire) waits) (a .ts))
+      ≡ doBusResult (stateOf (a .t1)) (a .status) (a .counts) (a .ts)
   unfolding doBusResult
   ends wire waits q r =
       let a = start watching .args in
       let s = stateOf (a .t1) in
       let both = told .state ∙ ap (λ (x : State). deliver x (sent watching .owner) (answer watching)) (copied watching .1) in
-      let all = concluded-parts s (sent watching) (a .status) (keeps watching .kept-counts .result) (stateOf (c .if3 .parts)) wire waits both q r in
+      let all = concluded-parts s (sent watching) (a .status) (keeps watching .kept-counts .result) (a .ts) (stateOf (c .if3 .parts)) wire waits both q r in
       taken-outcome s _ _ _ _ _ (accepted watching .before .bus-result-errno .ensures) (accepted watching .if1 .taken)
-      (ap (finish Answer.done) (all ∙ ap₂ (λ (t : Transmission) (k : Counts). concluded s t (a .status) k) (finds watching .head .ensures) (keeps watching .kept-counts .ensures)))
+      (ap (λ (x : State). finish Answer.done (withClock x (a .ts))) (all ∙ ap₂ (λ (t : Transmission) (k : Counts). concluded s t (a .status) k (a .ts)) (finds watching .head .ensures) (keeps watching .kept-counts .ensures)))
 
 returns : tie.Need-returns
 returns c =
@@ -148,7 +149,7 @@ returns c =
     let rest = asks .before .before in
     let j = rest .before .before .before in
     let w = watching j in
-    let waits = begun-taken (start w .args .status) (sent w) (stateOf (j .if3 .parts) .waits) _ (rest .is-ok .ensures) _ (asks .if4 .taken) (c .before .wait-for .ensures) in
+    let waits = begun-taken (start w .args .status) (sent w) (start w .args .ts) (stateOf (j .if3 .parts) .waits) _ (rest .is-ok .ensures) _ (asks .if4 .taken) (c .before .wait-for .ensures) in
     (ends j _ _ (rest .before .without-head .ensures) (c .put .ensures ∙ waits), λ z. absurd (z (accepted w .if1 .taken)))
 
 returns-2 : tie.Need-returns-2
@@ -156,7 +157,7 @@ returns-2 c =
     let rest = c .before .before in
     let j = rest .before .before .before in
     let w = watching j in
-    let waits = begun-left (start w .args .status) (sent w) (stateOf (j .if3 .parts) .waits) _ (rest .is-ok .ensures) (c .if4 .left) in
+    let waits = begun-left (start w .args .status) (sent w) (start w .args .ts) (stateOf (j .if3 .parts) .waits) _ (rest .is-ok .ensures) (c .if4 .left) in
     (ends j _ _ (rest .before .without-head .ensures) waits, λ z. absurd (z (accepted w .if1 .taken)))
 
 returns-3 : tie.Need-returns-3
@@ -176,9 +177,9 @@ bus-result-spec =
     count-at-requires
     cast-h
     result-requires
-    mul-t24
-    add-t25
-    mul-t26
+    mul-t25
+    add-t26
+    mul-t27
     element-set-from-parts
     add-parts
     mul-parts

@@ -1,6 +1,7 @@
 -- `copies::copies` meets its contract. Assumes nothing.
 use Prim.Native.Nat.{ℕ, _≤_, _-_}
 use mathlib.Core.Bool.{true}
+use mathlib.Core.List.{List}
 use mathlib.Core.Logic.{⊎-elim, _≢_}
 use mathlib.Core.Path.{ap, _≡_, refl, sym, _∙_}
 use native.Mathlib.Omega.{arith}
@@ -9,10 +10,11 @@ use borrow.Author.Needs.{needs}
 use Rattle.copies.proofs.Turns.{copyIf, each-next, turn-lost, turn-kept, turn-none, nobody}
 use Rattle.copies.specs.Kinds.{getsCopies, NOBODY}
 use Rattle.entry.specs.declared.Entry.{Entry}
+use Rattle.handles.specs.declared.Handles.{Handles}
 use Rattle.lists.specs.Tests.{clash}
 use Rattle.inbox.proofs.Arrays.{counted, room-within}
 use Rattle.parts.proofs.Arrays.{Delivered, LongParts, leaves, parts-long, stores}
-use Rattle.parts.specs.Parts.{stateOf}
+use Rattle.parts.specs.Parts.{changed, stateOf}
 use Rattle.parts.specs.declared.Parts.{Parts}
 use Rattle.rules.specs.Deliver.{each, handleNumbers, copies, loses, copiesBy}
 use Rattle.rules.specs.Derived.{roomTaken}
@@ -21,22 +23,29 @@ use Rattle.rules.specs.State.{State}
 use Rattle.copies.proofs.copies.Statement.{statement}
 use Rattle.copies.proofs.copies.Tie as tie
 
+-- the parts with what copies change
+abbrev copied : Parts → Handles → List ℕ → List Entry → Parts
+copied p handles counts entries = changed p handles counts entries (p .active) (p .clock)
+
+alike : (p : Parts) (hs hs′ : Handles) (cs cs′ : List ℕ) (es es′ : List Entry) → es ≡ es′ → cs ≡ cs′ → hs ≡ hs′ → copied p hs cs es ≡ copied p hs′ cs′ es′
+alike p hs hs′ cs cs′ es es′ x y z = rw (x, y, z)
+
 abbrev Inv-loop : tie.InvT-loop
-Inv-loop kind entry parts₀ handle₀ parts handle =
+Inv-loop parts kind entry entries₀ counts₀ handles₀ handle₀ entries counts handles handle =
     (handle ≤ 8)
-    × LongParts parts
-    × (stateOf parts ≡ each (copyIf kind entry) (stateOf parts₀) (take handle handleNumbers))
-    × (kind ≡ NOBODY → parts ≡ parts₀)
+    × LongParts (copied parts handles counts entries)
+    × (stateOf (copied parts handles counts entries) ≡ each (copyIf kind entry) (stateOf parts) (take handle handleNumbers))
+    × (kind ≡ NOBODY → copied parts handles counts entries ≡ parts)
 
 -- what a turn does to the parts
 abbrev Turn : ℕ → Entry → ℕ → Parts → Parts → Type 0
 Turn kind e h p q = LongParts q × (stateOf q ≡ copyIf kind e (stateOf p) h) × (kind ≡ NOBODY → q ≡ p)
 
 abbrev μ-loop : tie.MeasureT-loop
-μ-loop kind entry parts₀ handle₀ parts handle = 8 - handle
+μ-loop parts kind entry entries₀ counts₀ handles₀ handle₀ entries counts handles handle = 8 - handle
 
 loop-holds : tie.Need-loop-holds Inv-loop μ-loop
-loop-holds c = (omega arith, parts-long (c .args .t1) _ (c .good .0), refl, λ _. refl)
+loop-holds c = let start = c .before .before .before in (omega arith, parts-long (start .args .parts) _ (start .good .0), refl, λ _. refl)
 
 at-requires : tie.Need-at-requires Inv-loop μ-loop
 at-requires c κs = search needs
@@ -62,26 +71,26 @@ loses-requires c κs = search needs
 with-requires : tie.Need-with-requires Inv-loop μ-loop
 with-requires c κs = search needs
 
-mul-entry : tie.Need-mul-entry Inv-loop μ-loop
-mul-entry c = search needs
+mul-entries : tie.Need-mul-entries Inv-loop μ-loop
+mul-entries c = search needs
 
-add-entry : tie.Need-add-entry Inv-loop μ-loop
-add-entry c = search needs
+add-entries : tie.Need-add-entries Inv-loop μ-loop
+add-entries c = search needs
 
-mul-entry-2 : tie.Need-mul-entry-2 Inv-loop μ-loop
-mul-entry-2 c = search needs
+mul-entries-2 : tie.Need-mul-entries-2 Inv-loop μ-loop
+mul-entries-2 c = search needs
 
-element-set-from-entry : tie.Need-element-set-from-entry Inv-loop μ-loop
-element-set-from-entry c = room-within _ _ (c .if3 .taken) .2
+array-set-from-entries : tie.Need-array-set-from-entries Inv-loop μ-loop
+array-set-from-entries c = room-within _ _ (c .if3 .taken) .2
 
-add-parts : tie.Need-add-parts Inv-loop μ-loop
-add-parts c = search needs
+add-counts : tie.Need-add-counts Inv-loop μ-loop
+add-counts c = search needs
 
-mul-parts : tie.Need-mul-parts Inv-loop μ-loop
-mul-parts c = search needs
+mul-counts : tie.Need-mul-counts Inv-loop μ-loop
+mul-counts c = search needs
 
-element-write-parts : tie.Need-element-write-parts Inv-loop μ-loop
-element-write-parts c = search needs
+array-write-counts : tie.Need-array-write-counts Inv-loop μ-loop
+array-write-counts c = search needs
 
 add-handle : tie.Need-add-handle Inv-loop μ-loop
 add-handle c = search needs
@@ -91,13 +100,13 @@ loop-less c = search needs
 
 loop-again : tie.Need-loop-again Inv-loop μ-loop
 loop-again c =
-    let turn = c .before .before .before .before .before in
+    let turn = c .before .before .before .before in
     let l = turn .loop in
-    let a = turn .before .args in
+    let a = turn .before .before .before .before .args in
     let kind = a .kind in
     let e = a .entry in
-    let p = l .parts in
-    let q = c .if1 .parts in
+    let p = copied (a .parts) (l .handles) (l .counts) (l .entries) in
+    let q = copied (a .parts) (c .if1 .handles) (c .if1 .counts) (c .if1 .entries) in
     let s = stateOf p in
     let h = l .handle in
     let at = c .before .before .at .ensures in
@@ -108,22 +117,28 @@ loop-again c =
     let done : Turn kind e h p q =
     ⊎-elim
     (λ w. let t = sym g ∙ w .0 .taken in (
-      rw (w .12) (l .inv .1),
-      ap stateOf (w .12)
-          ∙ turn-lost kind e s h _ t (omega (arith, w .2 .ensures .0, w .6 .ensures .0 .0, w .8 .taken)) (w .11 .ensures ∙ ap (set (s .handles) h) (w .10 .ensures ∙ ap loses at)),
+      rw (w .7, w .8) (l .inv .1),
+      ap stateOf (alike (a .parts) _ _ _ _ _ _ (w .7) (w .8) (w .9))
+          ∙ turn-lost kind e s h _ t (omega (arith, w .1 .ensures .0, w .2 .ensures .0 .0, w .4 .taken)) (w .6 .ensures ∙ ap (set (s .handles) h) (w .5 .ensures ∙ ap loses at)),
       λ z. clash t (nobody kind (handleAt s h) z),
     ))
     (⊎-elim
-    (λ w. kept (w .0 .taken) (λ z. w .8 .left (omega (arith, w .2 .ensures .0, w .6 .ensures .0 .0, z))) (stores p (l .inv .1) h _ (w .2 .ensures .0) e q e (w .9 .taken) refl (w .10)))
+    (λ w.
+    let stays = alike (a .parts) _ _ _ _ _ _ (w .6) (w .7) (w .8) in
+    kept (w .0 .taken) (λ z. w .4 .left (omega (arith, w .1 .ensures .0, w .2 .ensures .0 .0, z))) (stores p (l .inv .1) h _ (w .1 .ensures .0) e q e (w .5 .taken) refl stays))
     (⊎-elim
-    (λ w. kept (w .0 .taken) (λ z. w .8 .left (omega (arith, w .2 .ensures .0, w .6 .ensures .0 .0, z))) (leaves p (l .inv .1) h _ (w .2 .ensures .0) e q (w .9 .left) (w .10)))
-    (λ w. (rw (w .1) (l .inv .1), ap stateOf (w .1) ∙ turn-none kind e s h (sym g ∙ w .0 .left), λ _. w .1))))
+    (λ w.
+    let stays = alike (a .parts) _ _ _ _ _ _ (w .6) (w .7) (w .8) in
+    kept (w .0 .taken) (λ z. w .4 .left (omega (arith, w .1 .ensures .0, w .2 .ensures .0 .0, z))) (leaves p (l .inv .1) h _ (w .1 .ensures .0) e q (w .5 .left) stays))
+    (λ w.
+    let stays = alike (a .parts) _ _ _ _ _ _ (w .1) (w .2) (w .3) in
+    (rw (w .1, w .2) (l .inv .1), ap stateOf stays ∙ turn-none kind e s h (sym g ∙ w .0 .left), λ _. stays))))
     (c .if1 .came) in (
       omega arith,
       done .0,
       done .1
           ∙ ap (λ (t : State). copyIf kind e t h) (l .inv .2)
-          ∙ sym (each-next (copyIf kind e) (stateOf (a .t1)) h (omega arith)),
+          ∙ sym (each-next (copyIf kind e) (stateOf (a .parts)) h (omega arith)),
       λ z. done .2 z ∙ l .inv .3 z,
     )
 
@@ -131,9 +146,9 @@ returns : tie.Need-returns Inv-loop μ-loop
 unfolding copiesBy
 returns c =
     let l = c .before .loop in
-    let a = c .before .before .args in
+    let a = c .before .before .before .before .before .args in
     let e : l .handle ≡ 8 = omega arith in
-    (l .inv .2 ∙ ap (λ (n : ℕ). each (copyIf (a .kind) (a .entry)) (stateOf (a .t1)) (take n handleNumbers)) e, l .inv .3)
+    (l .inv .2 ∙ ap (λ (n : ℕ). each (copyIf (a .kind) (a .entry)) (stateOf (a .parts)) (take n handleNumbers)) e, l .inv .3)
 
 pub copies-spec : {M : Type 1} → statement M
 copies-spec =
@@ -150,13 +165,13 @@ copies-spec =
     add-if2
     loses-requires
     with-requires
-    mul-entry
-    add-entry
-    mul-entry-2
-    element-set-from-entry
-    add-parts
-    mul-parts
-    element-write-parts
+    mul-entries
+    add-entries
+    mul-entries-2
+    array-set-from-entries
+    add-counts
+    mul-counts
+    array-write-counts
     add-handle
     loop-less
     loop-again

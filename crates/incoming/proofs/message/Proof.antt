@@ -10,17 +10,18 @@ use Rattle.copies.specs.Kinds.{getsCopies, NOBODY}
 use Rattle.entry.specs.Entry.{messageCopy}
 use Rattle.entry.specs.declared.Entry.{Entry}
 use Rattle.inbox.proofs.Arrays.{left-out, room-within, stored}
-use Rattle.incoming.proofs.Outcome.{Change, activeParts, message-outcome, replied-state}
+use Rattle.incoming.proofs.Outcome.{Change, copied-change, message-outcome, replied-state}
 use Rattle.incoming.proofs.Receivers.{nobody-copies}
 use Rattle.incoming.proofs.Turns.{doCopies, doNote, doReply, doSend}
 use Rattle.incoming.specs.Steps.{entryByRule, receiversOf}
 use Rattle.incoming.specs.Work.{toDoOf}
+use Rattle.incoming.specs.declared.Arrival.{Arrival}
 use Rattle.incoming.specs.declared.ToDo.{ToDo}
 use Rattle.lists.specs.Tests.{clash}
 use Rattle.message.specs.Rule.{RULE-NONE}
 use Rattle.message.specs.declared.Message.{Message}
-use Rattle.parts.proofs.Arrays.{LongParts, parts-long}
-use Rattle.parts.specs.Parts.{doneOf, stateOf}
+use Rattle.parts.proofs.Arrays.{LongParts, movedParts, parts-long}
+use Rattle.parts.specs.Parts.{changed, doneOf, stateOf}
 use Rattle.parts.specs.declared.Parts.{Parts}
 use Rattle.rules.specs.Deliver.{copies}
 use Rattle.rules.specs.Handles.{inRole, isHere}
@@ -28,26 +29,8 @@ use Rattle.rules.specs.Tracker.{doMessage}
 use Rattle.incoming.proofs.message.Statement.{statement}
 use Rattle.incoming.proofs.message.Tie as tie
 
-message-errno-requires : tie.Need-message-errno-requires
-message-errno-requires c κs = search needs
-
-new-requires : tie.Need-new-requires
-new-requires c κs = search needs
-
-active-after-requires : tie.Need-active-after-requires
-active-after-requires c κs = search needs
-
-destination-requires : tie.Need-destination-requires
-destination-requires c κs = search needs
-
-is-here-requires : tie.Need-is-here-requires
-is-here-requires c κs = search needs
-
-monitor-kind-requires : tie.Need-monitor-kind-requires
-monitor-kind-requires c κs = search needs
-
-receivers-requires : tie.Need-receivers-requires
-receivers-requires c κs = search needs
+arrived-requires : tie.Need-arrived-requires
+arrived-requires c κs = search needs
 
 message-copy-requires : tie.Need-message-copy-requires
 message-copy-requires c κs = search needs
@@ -114,63 +97,59 @@ module _ (c : tie.Joined5) where
   abbrev toDo : ToDo
   toDo = c .before .before .before .before .later-steps .result
 
-  abbrev message : Message
-  message = let sees = c .before .before .before .before .before .before .before in sees .before .before .before .before .before .before .new .result
+  abbrev arrives : tie.After-arrived
+  arrives = c .before .before .before .before .before .before .before .before .before .before
 
-  abbrev active : ℕ
-  active = let sees = c .before .before .before .before .before .before .before in sees .before .before .before .before .before .active-after .result
+  abbrev came : Arrival
+  came = arrives .arrived .result
 
-  abbrev errno : ℕ
-  errno = let sees = c .before .before .before .before .before .before .before in sees .before .before .before .before .before .before .before .message-errno .result
+  abbrev start : tie.Start
+  start = arrives .before
 
-  abbrev given : Parts
-  given = let sees = c .before .before .before .before .before .before .before in sees .before .before .before .before .before .before .before .before .args .t1
-
-  abbrev size : ℕ
-  size = let sees = c .before .before .before .before .before .before .before in sees .before .before .before .before .before .before .before .before .args .length
-
-  abbrev bytes : List ℕ
-  bytes = let sees = c .before .before .before .before .before .before .before in sees .before .before .before .before .before .before .before .before .args .bytes
+  -- the parts with the active address and the clock that the call stores last
+  abbrev moved : Parts → Parts
+  moved q = movedParts q (came .active) (came .clock)
 
 before-copies : (c : tie.Joined5) (q : Parts)
-    → Change (c .if5 .parts) (doCopies (toDo c) (message c) (stateOf (c .if5 .parts))) (toDo c .followers ≡ NOBODY) q
-    → (doneOf (record { parts = activeParts q (active c); errno = errno c }) ≡ doMessage (stateOf (given c)) (size c) (bytes c)) × (errno c ≢ 0 → activeParts q (active c) ≡ given c)
+    → let a = start c .args in
+    Change (c .if5 .parts) (doCopies (toDo c) (came c .message) (a .ts) (stateOf (c .if5 .parts))) (toDo c .followers ≡ NOBODY) q
+    → (doneOf (record { parts = moved c q; errno = came c .errno }) ≡ doMessage (stateOf (a .t1)) (a .length) (a .bytes) (a .ts)) × (came c .errno ≢ 0 → moved c q ≡ a .t1)
 before-copies c q last =
     let j4 = c .before in
     let j2 = j4 .before in
     let done = j2 .before .before in
-    let j1 = done .before .before in
-    let sees = j1 .before in
-    let there = sees .before .before in
-    let tracks = there .before .before .before in
-    let made = tracks .before in
-    let start = made .before .before in
-    let p = start .args .t1 in
-    let m = made .new .result in
+    let j1 = done .before .before .before in
+    let arrives = j1 .before .before .before in
+    let came = arrives .arrived .result in
+    let first = arrives .before in
+    let a = first .args in
+    let p = a .t1 in
+    let ts = a .ts in
+    let m = came .message in
     let x = done .later-steps .result in
-    let kind = sees .receivers .result in
+    let kind = came .monitors in
     let p1 = j1 .if1 .parts in
-    let copied : Change p (copies (inRole (getsCopies kind)) (messageCopy m) (stateOf p)) (kind ≡ NOBODY) p1 =
+    let copied : Change p (copies (inRole (getsCopies kind)) (messageCopy m ts) (stateOf p)) (kind ≡ NOBODY) p1 =
     ⊎-elim
     (λ w. (ap stateOf (w .3) ∙ w .2 .ensures .0 ∙ ap (λ (e : Entry). copies (inRole (getsCopies kind)) e (stateOf p)) (w .1 .ensures), λ z. absurd (w .0 .taken z)))
-    (λ w. (ap stateOf (w .1) ∙ nobody-copies kind (messageCopy m) (stateOf p) (w .0 .left), λ _. w .1))
+    (λ w. (ap stateOf (w .1) ∙ nobody-copies kind (messageCopy m ts) (stateOf p) (w .0 .left), λ _. w .1))
     (j1 .if1 .came) in
     let long : LongParts p1 =
     ⊎-elim
     (λ w. rw (w .3) (parts-long (w .2 .result) _ (w .2 .ok)))
-    (λ w. rw (w .1) (parts-long p _ (start .good .0)))
+    (λ w. rw (w .1) (parts-long p _ (first .good .0)))
     (j1 .if1 .came) in
     let p2 = j2 .if2 .parts in
-    let h = x .owner in
+    let h = x .wait .owner in
     let s1 = stateOf p1 in
-    let replied : Change p1 (doReply x m s1) (x .rule ≡ RULE-NONE) p2 =
+    let replied : Change p1 (doReply x m ts s1) (x .rule ≡ RULE-NONE) p2 =
     ⊎-elim
     (λ w.
     let reply = replied-state s1 (x .rule) _ _ _ h _ _ (w .0 .taken) (w .2 .ensures) (w .7 .ensures) in
     (ap stateOf (w .8) ∙ reply (stored (p1 .entries) (p1 .counts) long h _ _ (w .4 .ensures .0) (w .6 .taken)), λ z. absurd (w .0 .taken z)))
     (⊎-elim
     (λ w.
-    let reply = replied-state s1 (x .rule) _ _ _ h (entryByRule (x .rule) (x .sequence) m) _ (w .0 .taken) (w .2 .ensures) refl in
+    let reply = replied-state s1 (x .rule) _ _ _ h (entryByRule (x .rule) (x .wait) m ts) _ (w .0 .taken) (w .2 .ensures) refl in
     (ap stateOf (w .7) ∙ reply (left-out (p1 .entries) (p1 .counts) long h _ _ (w .4 .ensures .0) (w .6 .left)), λ z. absurd (w .0 .taken z)))
     (λ w. (ap stateOf (w .1) ∙ rw (w .0 .left), λ _. w .1)))
     (j2 .if2 .came) in
@@ -186,15 +165,9 @@ before-copies c q last =
     (λ w. (ap stateOf (w .4) ∙ rw (w .0 .taken, w .3 .ensures, w .2 .ensures), λ z. clash (w .0 .taken) z))
     (λ w. (ap stateOf (w .1) ∙ rw (w .0 .left), λ _. w .1))
     (c .if5 .came) in
-    let refuses = made .before .message-errno in
-    let monitored = sees .receivers .ensures ∙ ap (receiversOf (eqb (refuses .result) 0) (stateOf p .handles)) (sees .before .monitor-kind .ensures) in
-    let steps = done .later-steps .ensures ∙ ap (λ (b : Bool). toDoOf s1 (eqb (refuses .result) 0 && b) m) (done .before .goes-on .ensures) in
-    message-outcome (refuses .result) (start .args .length) (start .args .bytes) m (tracks .active-after .result) (there .is-here .result) kind x p p1 p2 p3 p4 q
-    (refuses .ensures)
-    (made .new .ensures)
-    (tracks .active-after .ensures)
-    (there .is-here .ensures ∙ ap (isHere (stateOf p)) (there .before .destination .ensures .0))
-    monitored
+    let steps = done .later-steps .ensures ∙ ap (λ (b : Bool). toDoOf s1 (eqb (came .errno) 0 && b) m) (done .before .goes-on .ensures) in
+    message-outcome came (a .length) (a .bytes) ts x p p1 p2 p3 p4 q
+    (arrives .arrived .ensures)
     steps
     copied
     replied
@@ -204,26 +177,25 @@ before-copies c q last =
 
 returns : tie.Need-returns
 returns c =
-    let j5 = c .before .before .before .before in
-    let copied = c .copies2 .ensures .0 ∙ ap (λ (e : Entry). copies (inRole (getsCopies (toDo j5 .followers))) e (stateOf (j5 .if5 .parts))) (c .before .message-copy2 .ensures) in
-    before-copies j5 (c .copies2 .result) (copied, c .copies2 .ensures .1)
+    let told = c .before .before .before in
+    let j5 = told .before .before .before .before in
+    let p = j5 .if5 .parts in
+    let r = told .copies2 .result in
+    let kind = toDo j5 .followers in
+    let e = messageCopy (came j5 .message) (start j5 .args .ts) in
+    let copied = told .copies2 .ensures .0 ∙ ap (λ (x : Entry). copies (inRole (getsCopies kind)) x (stateOf p)) (told .before .message-copy2 .ensures) in
+    before-copies j5 (changed p (r .handles) (r .counts) (r .entries) (p .active) (p .clock)) (copied-change p r (inRole (getsCopies kind)) e (kind ≡ NOBODY) copied (told .copies2 .ensures .1))
 
 returns-2 : tie.Need-returns-2
 returns-2 c =
     let j5 = c .before .before in
-    before-copies j5 (j5 .if5 .parts) (nobody-copies (toDo j5 .followers) (messageCopy (message j5)) (stateOf (j5 .if5 .parts)) (c .if6 .left), λ _. refl)
+    before-copies j5 (j5 .if5 .parts) (nobody-copies (toDo j5 .followers) (messageCopy (came j5 .message) (start j5 .args .ts)) (stateOf (j5 .if5 .parts)) (c .if6 .left), λ _. refl)
 
 pub message-spec : {M : Type 1} → statement M
 message-spec =
     tie.close
     (tie.spec
-    message-errno-requires
-    new-requires
-    active-after-requires
-    destination-requires
-    is-here-requires
-    monitor-kind-requires
-    receivers-requires
+    arrived-requires
     message-copy-requires
     copies-requires
     goes-on-requires
