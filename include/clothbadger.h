@@ -129,8 +129,8 @@ CLOTHBADGER_STATIC_ASSERT(CLOTHBADGER_ALIGNOF(struct cec_adapter) == 8, "alignme
  * the physical address, the noted ones and the active one (invalid).
  */
 #define CLOTHBADGER_QUEUE_SLOTS       32
-#define CLOTHBADGER_QUEUE_OWNER(slot) (288 + 32 * (slot))
-#define CLOTHBADGER_WIRE_OWNER        248
+#define CLOTHBADGER_QUEUE_OWNER(slot) (252 + 32 * (slot))
+#define CLOTHBADGER_WIRE_OWNER        1280
 #define CLOTHBADGER_CAPABILITIES      72
 #define CLOTHBADGER_PHYSICAL_ADDRESS  80
 #define CLOTHBADGER_NOTED             112

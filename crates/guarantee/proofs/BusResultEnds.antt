@@ -150,8 +150,8 @@ module _ (s : State) (x : Transmission) (r : Inv s) (w : s .wire ≡ x ∷ []) w
         results = λ t. result-shows (t .sequence) status kept (t .message) ts;
         replies = λ v. shown-reply (timeoutEntry-shows v) (omega arith);
         wanted = λ v _. refl;
-        timed = λ t. refl;
-        told = λ v. refl;
+        resultTimes = λ t. refl;
+        replyTimes = λ v. refl;
       };
       clocked = omega arith;
       comes = λ h l. comes resultOf timeoutEntry h l s copied copied (concluded s x status kept ts) (x ∷ []) [] r aside refl refl (owed-less h l);

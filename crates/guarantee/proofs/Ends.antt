@@ -68,12 +68,12 @@ pub record Ending : Type 0 where
   pub results : (x : Transmission) → Shows (x .sequence) status 0 (resultOf x)
   pub replies : (w : Wait) → Replies (w .sequence) (replyOf w)
   pub wanted : ShowsWanted replyOf
-  pub timed : (x : Transmission) → resultOf x .«tx_ts» ≡ sentAt
-  pub told : ShowsSent replyOf
+  pub resultTimes : (x : Transmission) → resultOf x .«tx_ts» ≡ sentAt
+  pub replyTimes : ShowsSent replyOf
 
 -- transmissions are aborted
 abbrev pub aborts : (replyOf : Wait → Entry) → ((w : Wait) → Replies (w .sequence) (replyOf w)) → ShowsWanted replyOf → ShowsSent replyOf → Ending
-aborts replyOf replies wanted told = record {
+aborts replyOf replies wanted replyTimes = record {
   status = CEC-TX-STATUS-ABORTED;
   final = omega arith;
   sentAt = 0;
@@ -82,8 +82,8 @@ aborts replyOf replies wanted told = record {
   results = abortedResult-shows;
   replies = replies;
   wanted = wanted;
-  timed = λ x. refl;
-  told = told;
+  resultTimes = λ x. refl;
+  replyTimes = replyTimes;
 }
 
 -- from s the call leads to t

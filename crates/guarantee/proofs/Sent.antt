@@ -94,12 +94,12 @@ module _ (ts h n : ℕ) (l : h < 8) (d : n ≢ 0) where
 
       -- what ends a wait shows the time with which it began
       of-wait : (w : Wait) → cond (ownedBy h w) (bit (showsOtherTime n ts (e .by .replyOf w))) 0 ≡ awaitedAs (otherBegan ts) h n w
-      of-wait w = rw (reply-is s c t e h l n d w, e .by .told w) (wait-weight (eqb (w .owner) h) (eqb (w .sequence) n) (eqb (w .«tx_ts») ts))
+      of-wait w = rw (reply-is s c t e h l n d w, e .by .replyTimes w) (wait-weight (eqb (w .owner) h) (eqb (w .sequence) n) (eqb (w .«tx_ts») ts))
 
       -- a wait begins with the time that the result shows
       of-sent : (x : Transmission) → begins (awaitedAs (otherBegan ts) h n) (e .by .status) (e .by .sentAt) x ≤ cond (eqb (x .owner) h) (bit (otherResult n ts (e .by .resultOf x))) 0
       of-sent x =
-          rw (result-is s c t e h l n d x, e .by .timed x)
+          rw (result-is s c t e h l n d x, e .by .resultTimes x)
           (sent-weight (eqb (x .owner) h) (eqb (x .sequence) n) (eqb (e .by .sentAt) ts) (hasBit CEC-TX-STATUS-OK (e .by .status) && x .«wants_reply»))
 
       shown-sum : brought (showsOtherTime n ts) h s c (finish done t) ≡ sum (awaitedAs (otherBegan ts) h n) (e .over)

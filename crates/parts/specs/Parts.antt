@@ -48,8 +48,8 @@ changed p handles counts entries active clock = record {
   noted = p .noted;
   active = active;
   handles = handles;
-  wire = p .wire;
   queue = p .queue;
+  wire = p .wire;
   waits = p .waits;
   entries = entries;
 }

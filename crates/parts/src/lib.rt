@@ -22,7 +22,7 @@ use waits::Waits;
 use wire::Wire;
 
 // The inboxes lie in `entries`, handle h's in the 16 places from 16 * h on, with their `counts` apart: arrays that lie in the struct itself are written in place.
-// The order is by measurement: with the counts first and the entries last the compiler copies least.
+// The order is by measurement: with the counts first, the entries last and the queue before the wire the compiler copies least.
 #[repr(C)]
 pub struct Parts {
     pub counts: [usize; 8],
@@ -34,8 +34,8 @@ pub struct Parts {
     pub noted: [u16; 15],
     pub active: u16,
     pub handles: Handles,
-    pub wire: Wire,
     pub queue: Queue,
+    pub wire: Wire,
     pub waits: Waits,
     pub entries: [Entry; 128],
 }
@@ -102,8 +102,8 @@ impl Parts {
             noted: none_noted(),
             active: CEC_PHYS_ADDR_INVALID,
             handles: Handles::all_closed(),
-            wire: Wire::idle(),
             queue: Queue::empty(),
+            wire: Wire::idle(),
             waits: Waits::empty(),
             entries: entries,
         }

@@ -49,5 +49,5 @@ messageCopy-shows m ts = record { sequence = refl; transmitted = refl; received 
 pub replyEntry-shows : (w : Wait) (m : Message) (ts : ℕ) → Shows (w .sequence) 0 (cond (isFeatureAbort (opcode (m .bytes))) 0x05 0x01) (replyEntry w m ts)
 replyEntry-shows w m ts =
     split (isFeatureAbort (opcode (m .bytes)))
-    (λ e. rw e (featureAbortReply-shows (w .sequence) m (w .«tx_ts») ts))
-    (λ e. rw e (reply-shows (w .sequence) m (w .«tx_ts») ts))
+    (λ e. rw e (featureAbortReply-shows (w .sequence) m _ ts))
+    (λ e. rw e (reply-shows (w .sequence) m _ ts))

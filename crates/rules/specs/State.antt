@@ -16,7 +16,8 @@ pub record Capabilities : Type 0 where
   pub transmit : Bool
   pub monitorAll : Bool
 
--- "8 handles", "A transmit queue of 18 messages", "a wire that holds at most one more", "An inbox of 16 entries per handle", "Waits", the settings, "one noted physical address for each of 0 to 14", the last sequence number given, the active address of the routing tracker (document 02, W-205), and the clock: the time of the last bus result or message that was accepted, in nanoseconds (W-208)
+-- "8 handles", "A transmit queue of 18 messages", "a wire that holds at most one more", "An inbox of 16 entries per handle", "Waits", the settings, "one noted physical address for each of 0 to 14", the last sequence number given;
+-- document 02: the active address of the routing tracker (W-205), and the clock, the time of the last bus result or message that was accepted, in nanoseconds (W-208)
 pub record State : Type 0 where
   pub capabilities : Capabilities
   pub handles : List Handle

@@ -16,11 +16,11 @@ none-noted-requires c κs = search needs
 all-closed-requires : tie.Need-all-closed-requires
 all-closed-requires c κs = search needs
 
-idle-requires : tie.Need-idle-requires
-idle-requires c κs = search needs
-
 empty-requires-2 : tie.Need-empty-requires-2
 empty-requires-2 c κs = search needs
+
+idle-requires : tie.Need-idle-requires
+idle-requires c κs = search needs
 
 empty-requires-3 : tie.Need-empty-requires-3
 empty-requires-3 c κs = search needs
@@ -32,7 +32,7 @@ returns c =
     let settings = handles .before .before in
     let inboxes = settings .before .before .before in
     rw (inboxes .empty .ensures, settings .no-settings .ensures, handles .before .none-noted .ensures, handles .all-closed .ensures)
-    (rw (c .before .before .idle .ensures, c .before .empty2 .ensures, c .empty3 .ensures))
+    (rw (c .before .before .empty2 .ensures, c .before .idle .ensures, c .empty3 .ensures))
 
 pub fresh-spec : {M : Type 1} → statement M
 fresh-spec =
@@ -42,7 +42,7 @@ fresh-spec =
     no-settings-requires
     none-noted-requires
     all-closed-requires
-    idle-requires
     empty-requires-2
+    idle-requires
     empty-requires-3
     returns)
