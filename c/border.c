@@ -25,7 +25,7 @@ static const struct cec_request own_poll = {.length = 1, .bytes = {0x44}};
 static const struct cec_request no_message = {.length = 0};
 static const struct cec_message power_report = {.length = 3, .bytes = {0x04, CEC_MSG_REPORT_POWER_STATUS, 0x01}};
 
-/* When the first result and the messages after it came: no two bytes are the same. */
+/* When results came, and when the messages after them did: no two bytes are the same. */
 static const uint64_t sent_at = 0x1122334455667788, heard_at = 0x2132435465768798;
 
 static struct cec_adapter adapter;

@@ -158,9 +158,9 @@ struct cec_counts {
  * (rx_status not 0: reply, Feature Abort, timeout or abort). With sequence 0: a copy for a monitor or a follower.
  * At the end of a wait, reply is the opcode that came, CEC_MSG_FEATURE_ABORT (0) for a Feature Abort, or, with a timeout or an
  * abort, the opcode that was wanted. In results and copies it is 0.
- * tx_ts is the time that cec_bus_result() gave of the transmit, rx_ts that which cec_received() gave of the message, in nanoseconds.
- * Results and their copies have tx_ts alone, copies of messages rx_ts alone, replies and Feature Aborts both, timeouts and aborts of
- * a wait tx_ts alone. The other is 0, and both are in the result of a transmit that cec_unconfigure() ended.
+ * tx_ts is the time that was given to cec_bus_result() when the transmit ended, rx_ts the time that was given to cec_received() with
+ * the message, both in nanoseconds. Results and their copies show tx_ts, copies of messages rx_ts, replies and Feature Aborts both,
+ * timeouts and aborts of a wait tx_ts. A time that is not shown is 0; in the result of a transmit that cec_unconfigure() ended both are.
  */
 struct cec_entry {
     uint32_t sequence;

@@ -12,7 +12,7 @@ use Rattle.guarantee.proofs.Histories.{asks, tells}
 use Rattle.guarantee.specs.Claim.{Kept}
 use Rattle.guarantee.specs.Modes.{ModesHeld}
 use Rattle.guarantee.specs.Opcodes.{WantedShown}
-use Rattle.guarantee.specs.Timestamps.{SentShown}
+use Rattle.guarantee.specs.Timestamps.{SentShown, TimesOfStep}
 use Rattle.lists.specs.Tests.{clash}
 use Rattle.message.specs.Message.{message}
 use Rattle.message.specs.declared.Message.{Message}
@@ -136,14 +136,21 @@ pub other-opcode : WantedShown (asked ∷ sent (ok ∷ []) [] ∷ expired 0x91 �
 other-opcode k = let z = k [] asked (sent (ok ∷ []) [] ∷ expired 0x91 ∷ []) refl 0 asks 1 refl refl in omega arith
 
 -- ---- a reply that shows another sent time than its transmit's result
-abbrev okAt : ℕ → Entry
-okAt ts = result 1 0x01 noCounts m ts
+abbrev resultShowing : ℕ → Entry
+resultShowing ts = result 1 0x01 noCounts m ts
 
 abbrev repliedAt : ℕ → Step
-repliedAt ts = call (callMessage 3 (replicate 16 0) 7) done (state (okAt 5 ∷ []) []) (state (okAt 5 ∷ reply 1 m ts 7 ∷ []) [])
+repliedAt ts = call (callMessage 3 (replicate 16 0) 7) done (state (resultShowing 5 ∷ []) []) (state (resultShowing 5 ∷ reply 1 m ts 7 ∷ []) [])
 
-pub other-time : SentShown (asked ∷ sent (okAt 5 ∷ []) [] ∷ repliedAt 7 ∷ []) → ⊥
-other-time k = let z = k [] asked (sent (okAt 5 ∷ []) [] ∷ repliedAt 7 ∷ []) refl 0 asks 1 refl refl 5 (omega arith) in omega arith
+pub other-time : SentShown (asked ∷ sent (resultShowing 5 ∷ []) [] ∷ repliedAt 7 ∷ []) → ⊥
+other-time k = let z = k [] asked (sent (resultShowing 5 ∷ []) [] ∷ repliedAt 7 ∷ []) refl 0 asks 1 refl refl 5 (omega arith) in omega arith
+
+-- a result, and a reply, that show another time than their call's
+pub result-of-another : TimesOfStep (sent (resultShowing 5 ∷ []) []) → ⊥
+result-of-another k = let z = k .results 0x01 noCounts 0 refl 0 0 (omega arith) .0 in omega arith
+
+pub reply-of-another : TimesOfStep (call (callMessage 3 (replicate 16 0) 8) done (state [] []) (state (reply 1 m 5 7 ∷ []) [])) → ⊥
+reply-of-another k = let z = k .messages 3 (replicate 16 0) 8 refl 0 0 (omega arith) in omega arith
 
 -- ---- modes that no adapter may have
 -- handles 0 and 1 in these modes, handle 1 without privilege

@@ -153,6 +153,7 @@ module _ (s : State) (x : Transmission) (r : Inv s) (w : s .wire ≡ x ∷ []) w
         resultTimes = λ t. refl;
         replyTimes = λ v. refl;
       };
+      ending = refl;
       clocked = omega arith;
       comes = λ h l. comes resultOf timeoutEntry h l s copied copied (concluded s x status kept ts) (x ∷ []) [] r aside refl refl (owed-less h l);
       closes = λ h. refl;

@@ -1,7 +1,7 @@
 -- What a call does that ends transmissions and waits: a bus result, a message from the wire, time passing and an unconfigure.
 -- Assumes nothing.
 use Prim.Native.Nat.{ℕ, _+_, _-_, _≤_, _<_}
-use mathlib.Core.Bool.{false, cond, _&&_}
+use mathlib.Core.Bool.{Bool, true, false, cond, _&&_}
 use mathlib.Core.List.{List, [], map}
 use mathlib.Core.Logic.{_≢_}
 use mathlib.Core.Path.{_≡_, refl, _∙_, sym}
@@ -21,7 +21,7 @@ use Rattle.rules.proofs.Aside.{Owned, Aside, aside-pending, aside-sum, core-wei
 use Rattle.rules.proofs.Entries.{Shows, abortedResult-shows, abortEntry-shows}
 use Rattle.rules.proofs.SameModes.{SameModes}
 use Rattle.rules.specs.BusResult.{waitFor}
-use Rattle.rules.specs.Call.{Call}
+use Rattle.rules.specs.Call.{Call, callOpen, callClose, callMode, callTransmit, callReceive, callBusStart, callBusResult, callMessage, callTime, callConfigure, callUnconfigure, callListing, callLookup, callActiveAddress}
 use Rattle.rules.specs.Handles.{hasBit}
 use Rattle.rules.specs.Owed.{pending}
 use Rattle.rules.specs.State.{State}
@@ -55,8 +55,8 @@ abbrev pub ShowsWanted : (Wait → Entry) → Type 0
 ShowsWanted replyOf = (w : Wait) → hasBit CEC-RX-STATUS-OK (replyOf w .«rx_status») ≡ false → replyOf w .reply ≡ w .reply
 
 -- each entry that ends a wait shows the time of its transmit's result (document 02, W-208)
-abbrev pub ShowsSent : (Wait → Entry) → Type 0
-ShowsSent replyOf = (w : Wait) → replyOf w .«tx_ts» ≡ w .«tx_ts»
+abbrev pub KeepsSentTime : (Wait → Entry) → Type 0
+KeepsSentTime replyOf = (w : Wait) → replyOf w .«tx_ts» ≡ w .«tx_ts»
 
 -- with what status and at what time transmissions end, and the entries by which they and the waits end
 pub record Ending : Type 0 where
@@ -69,10 +69,10 @@ pub record Ending : Type 0 where
   pub replies : (w : Wait) → Replies (w .sequence) (replyOf w)
   pub wanted : ShowsWanted replyOf
   pub resultTimes : (x : Transmission) → resultOf x .«tx_ts» ≡ sentAt
-  pub replyTimes : ShowsSent replyOf
+  pub replyTimes : KeepsSentTime replyOf
 
 -- transmissions are aborted
-abbrev pub aborts : (replyOf : Wait → Entry) → ((w : Wait) → Replies (w .sequence) (replyOf w)) → ShowsWanted replyOf → ShowsSent replyOf → Ending
+abbrev pub aborts : (replyOf : Wait → Entry) → ((w : Wait) → Replies (w .sequence) (replyOf w)) → ShowsWanted replyOf → KeepsSentTime replyOf → Ending
 aborts replyOf replies wanted replyTimes = record {
   status = CEC-TX-STATUS-ABORTED;
   final = omega arith;
@@ -86,13 +86,31 @@ aborts replyOf replies wanted replyTimes = record {
   replyTimes = replyTimes;
 }
 
+-- the calls by which transmissions and waits may end
+abbrev pub isEnding : Call → Bool
+isEnding (callOpen p) = false
+isEnding (callClose g) = false
+isEnding (callMode g mode) = false
+isEnding (callTransmit g r) = false
+isEnding (callReceive g) = false
+isEnding callBusStart = false
+isEnding (callBusResult status counts ts) = true
+isEnding (callMessage n bytes ts) = true
+isEnding (callTime ms) = true
+isEnding (callConfigure x) = false
+isEnding callUnconfigure = true
+isEnding (callListing rows) = false
+isEnding (callLookup a) = false
+isEnding callActiveAddress = false
+
 -- from s the call leads to t
 pub record Ends (s : State) (c : Call) (t : State) : Type 0 where
   -- the transmissions and the waits that end, and how
   pub sent : List Transmission
   pub over : List Wait
   pub by : Ending
-  -- a transmission that a bus result ends shows the time of that call
+  pub ending : isEnding c ≡ true
+  -- no transmission ends at a later time than the call carries, 0 where it carries none
   pub clocked : by .sentAt ≤ timeIn c
   pub comes : (h : ℕ) → h < 8 → Comes h s t (entriesTo (by .resultOf) (by .replyOf) h sent over)
   -- no handle is opened or closed, no mode is set, and nothing is past its bounds
@@ -112,12 +130,13 @@ pub record Ends (s : State) (c : Call) (t : State) : Type 0 where
   pub late : (h n b : ℕ) → waitingAs (λ w. ltb (b - milliseconds c) (w .left)) h n t ≤ waitingAs (λ w. ltb b (w .left)) h n s + sum (sentAs (λ x. ltb b (x .timeout)) h n) sent
 
 -- a call that does no more than copies and the core's work
-pub aside-ends : (s t : State) (c : Call) → Inv s → Aside s t → ((h : ℕ) → isClose h c ≡ false) → isBusResult c ≡ false → milliseconds c ≡ 0 → Ends s c t
+pub aside-ends : (s t : State) (c : Call) → Inv s → Aside s t → isEnding c ≡ true → ((h : ℕ) → isClose h c ≡ false) → isBusResult c ≡ false → milliseconds c ≡ 0 → Ends s c t
 unfolding waitingAs
-aside-ends s t c r a close bus time = record {
+aside-ends s t c r a ending close bus time = record {
   sent = [];
   over = [];
   by = aborts abortEntry (λ w. shown-reply (abortEntry-shows w) (omega arith)) (λ w _. refl) (λ w. refl);
+  ending = ending;
   clocked = omega arith;
   comes = λ h l. comes-aside h l s t r a;
   closes = close;

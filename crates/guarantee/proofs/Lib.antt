@@ -33,3 +33,4 @@ pub mod Opcodes
 pub mod Timestamps
 pub mod Wanted
 pub mod Sent
+pub mod OfCall

@@ -45,6 +45,7 @@ ends-then s t u c e a = record {
   sent = e .sent;
   over = e .over;
   by = e .by;
+  ending = e .ending;
   clocked = e .clocked;
   comes = λ h l. comes-then h l s t u _ (e .comes h l) (same-open s t (e .modes) h) a;
   closes = e .closes;
@@ -97,6 +98,7 @@ module _ (s : State) (r : Inv s) (m : Message) (k : ℕ) (bytes : List ℕ) (ts 
       sent = [];
       over = wait ∷ [];
       by = aborts replyOf (λ w. reply-shown w m ts) (λ w q. clash (reply-ok w m ts) q) (λ w. reply-times w m ts .0);
+      ending = refl;
       clocked = omega arith;
       comes = λ h q. comes abortedResult replyOf h q s c (withWaits c rest) after [] (wait ∷ []) r a refl refl (owed-less h q);
       closes = λ h. refl;
@@ -141,7 +143,7 @@ module _ (s : State) (r : Inv s) (m : Message) (k : ℕ) (bytes : List ℕ) (ts 
       none : ltb i (length (s .waits)) ≡ false → Ends s call (later (replied c (takenAt i (s .waits)) m ts) said reply (takenAt i (s .waits)))
       none q =
           let e : replied c (takenAt i (s .waits)) m ts ≡ c = rw q in
-          rw e (aside-ends s _ call r (aside-trans s c _ a (later-aside c said reply (takenAt i (s .waits)))) (λ h. refl) refl refl)
+          rw e (aside-ends s _ call r (aside-trans s c _ a (later-aside c said reply (takenAt i (s .waits)))) refl (λ h. refl) refl refl)
 
   -- a message that is taken
   pub message-ends : (said : Bool) (reply : List ℕ) → Ends s call (heardWith s said reply m ts)
@@ -150,5 +152,5 @@ module _ (s : State) (r : Inv s) (m : Message) (k : ℕ) (bytes : List ℕ) (ts 
       let c = copies (inRole (monitors s m)) (messageCopy m ts) s in
       let a = copies-aside (monitors s m) (messageCopy m ts) (messageCopy-shows m ts .sequence) s in
       split (stops s m)
-      (λ q. rw q (aside-ends s c call r a (λ h. refl) refl refl))
+      (λ q. rw q (aside-ends s c call r a refl (λ h. refl) refl refl))
       (λ q. rw q (handled-ends c a said reply (first (answeredBy m) (s .waits))))

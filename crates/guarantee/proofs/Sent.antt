@@ -184,10 +184,10 @@ one-of-all : (p : Entry → Bool) (g : ℕ) (xs : List Step) → g < 8 → cameT
 one-of-all p g xs l = omega (arith, upto-most (λ h. cameTo p h xs) g 8 l)
 
 -- after a transmit that is accepted and queued: at most one result comes, and where it shows ts no reply entry shows another
-abbrev ShownSent : ℕ → List Step → Type 0
-ShownSent n later = (ts : ℕ) → 1 ≤ cameToAny (resultAt n ts) (own n later) → cameToAny (showsOtherTime n ts) (own n later) ≡ 0
+abbrev SentShownAfter : ℕ → List Step → Type 0
+SentShownAfter n later = (ts : ℕ) → 1 ≤ cameToAny (resultAt n ts) (own n later) → cameToAny (showsOtherTime n ts) (own n later) ≡ 0
 
-sent-after : (h : ℕ) (x : Request) (n : ℕ) (s : State) → Inv s → Began h x n s → (cs : List Call) → ShownSent n (run s cs)
+sent-after : (h : ℕ) (x : Request) (n : ℕ) (s : State) → Inv s → Began h x n s → (cs : List Call) → SentShownAfter n (run s cs)
 sent-after h x n s r b cs ts k =
     let xs = own n (run s cs) in
     let other : cameToAny (otherResult n ts) xs ≡ 0 = omega (arith, k, results-split n ts xs, fate h x n s r b cs .oneResultAtMost) in
@@ -196,4 +196,4 @@ sent-after h x n s r b cs ts k =
 
 pub always-sent : AlwaysSent
 always-sent c calls past x later e h r n k a ts q =
-    omega (arith, after-transmit (λ (g : ℕ) (y : Request) (i : ℕ) (ys : List Step). ShownSent i ys) sent-after c calls past x later e h r n k a ts q)
+    omega (arith, after-transmit (λ (g : ℕ) (y : Request) (i : ℕ) (ys : List Step). SentShownAfter i ys) sent-after c calls past x later e h r n k a ts q)

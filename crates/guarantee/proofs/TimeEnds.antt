@@ -80,6 +80,7 @@ module _ (ms : ℕ) where
         sent = [];
         over = overdue ms (s .waits);
         by = aborts timeoutEntry (λ w. shown-reply (timeoutEntry-shows w) (omega arith)) (λ w _. refl) (λ w. refl);
+        ending = refl;
         clocked = omega arith;
         comes = λ h l. comes abortedResult timeoutEntry h l s s timed (withInboxes timed is) [] (overdue ms (s .waits)) r (aside-refl s) refl e (owed-time s h);
         closes = λ h. refl;

@@ -58,6 +58,7 @@ module _ (s : State) where
     sent = pending s;
     over = s .waits;
     by = aborts abortEntry (λ w. shown-reply (abortEntry-shows w) (omega arith)) (λ w _. refl) (λ w. refl);
+    ending = refl;
     clocked = omega arith;
     comes = λ h l. comes abortedResult abortEntry h l s s (unset s) (withInboxes (unset s) is) (pending s) (s .waits) r (aside-refl s) refl e (owed-all s h);
     closes = λ h. refl;

@@ -25,7 +25,7 @@ use Rattle.message.specs.Rule.{RULE-NONE}
 use Rattle.message.specs.declared.Message.{Message}
 use Rattle.parts.proofs.Arrays.{movedParts}
 use Rattle.parts.proofs.Outcomes.{refused-outcome, taken-outcome}
-use Rattle.parts.specs.Parts.{changed, doneOf, orRefused, stateOf}
+use Rattle.parts.specs.Parts.{withChanged, doneOf, orRefused, stateOf}
 use Rattle.parts.specs.declared.Parts.{Parts}
 use Rattle.rules.specs.Call.{Answer, finish}
 use Rattle.rules.specs.Deliver.{copies, deliver}
@@ -41,10 +41,10 @@ Change p s nothing q = (stateOf q ≡ s) × (nothing → q ≡ p)
 
 -- what copies change, stored in the parts
 pub copied-change : (p r : Parts) (f : Handle → Bool) (e : Entry) (nothing : Type 0) → stateOf r ≡ copies f e (stateOf p) → (nothing → r ≡ p)
-    → Change p (copies f e (stateOf p)) nothing (changed p (r .handles) (r .counts) (r .entries) (p .active) (p .clock))
+    → Change p (copies f e (stateOf p)) nothing (withChanged p (r .handles) (r .counts) (r .entries) (p .active) (p .clock))
 copied-change p r f e nothing s n = (
   ap (λ (t : State). withInboxes (withHandles (stateOf p) (t .handles)) (t .inboxes)) s ∙ sym (copies-only f e (stateOf p)),
-  λ z. ap (λ (x : Parts). changed p (x .handles) (x .counts) (x .entries) (p .active) (p .clock)) (n z),
+  λ z. ap (λ (x : Parts). withChanged p (x .handles) (x .counts) (x .entries) (p .active) (p .clock)) (n z),
 )
 
 outcome : (errno length : ℕ) (bytes : List ℕ) (ts : ℕ) (m : Message) (active clock : ℕ) (here : Bool) (kind : ℕ) (x : ToDo) (p0 p1 p2 p3 p4 p5 : Parts)

@@ -134,7 +134,7 @@ fn clock_after(clock: u64, accepted: bool, ts: u64) -> u64
     if accepted { ts } else { clock }
 }
 
-// The checks and step 1.
+// What the checks say, and for step 1 which monitors get a copy.
 fn arrived(parts: Parts, length: u8, bytes: [u8; 16], ts: u64) -> Arrival
     ensures { λ r. ⌜ r ≡ arrivalOf (stateOf parts) length bytes ts ⌝ }
 {
@@ -151,7 +151,7 @@ fn arrived(parts: Parts, length: u8, bytes: [u8; 16], ts: u64) -> Arrival
     }
 }
 
-// Of the followers' copies what changed is stored, and not the parts as a whole, which would be moved once more.
+// The six steps as `arrived` and `later_steps` say them, then the tracker and the clock. Of the followers' copies only what they change is stored: to store the parts as a whole would move them once more.
 pub fn message(mut parts: Parts, length: u8, bytes: [u8; 16], ts: u64) -> Done
     ensures { λ r. ⌜ doneOf r ≡ doMessage (stateOf parts) length bytes ts ⌝ }
     ensures { λ r. ⌜ (r .errno ≢ 0 → r .parts ≡ parts) ⌝ }

@@ -543,11 +543,11 @@ fn say_refused() {
     );
     line(b"same, bus start: errno ", too_early.bus_start().errno);
     line(
-        b"result 0x02 refused, one before it: errno ",
+        b"result 0x02 refused at 7 s, then a result at 5 s: errno ",
         ended(not_final, SENT_AT).errno,
     );
     line(
-        b"message of 17 bytes refused, one before it: errno ",
+        b"message of 17 bytes refused at 7 s, then a message at 5 s: errno ",
         all_told(too_long, SENT_AT).errno,
     );
 }

@@ -51,10 +51,10 @@ unfolding bodyLength callOf played grown next finished decimal fresh unless chec
 low-byte-first = refl
 
 -- a poll to 15, with a time of 8 bytes: 2 to the 56th, and then 255, which is refused: `9 0`, `9 22`
-abbrev polled : List ℕ → List ℕ
-polled time = (0x09 ∷ 0x01 ∷ 0x0F ∷ replicate 15 0) ++ time
+abbrev pollRecord : List ℕ → List ℕ
+pollRecord time = (0x09 ∷ 0x01 ∷ 0x0F ∷ replicate 15 0) ++ time
 
-pub earlier-time : Prints (polled (replicate 7 0 ++ (0x01 ∷ [])) ++ polled (0xFF ∷ replicate 7 0)) (57 ∷ 32 ∷ 48 ∷ 10 ∷ 57 ∷ 32 ∷ 50 ∷ 50 ∷ 10 ∷ [])
+pub earlier-time : Prints (pollRecord (replicate 7 0 ++ (0x01 ∷ [])) ++ pollRecord (0xFF ∷ replicate 7 0)) (57 ∷ 32 ∷ 48 ∷ 10 ∷ 57 ∷ 32 ∷ 50 ∷ 50 ∷ 10 ∷ [])
 unfolding every-rule bodyLength callOf played grown next finished decimal
 earlier-time = refl
 

@@ -11,7 +11,7 @@ use Rattle.entry.specs.declared.Entry.{Entry}
 use Rattle.inbox.proofs.Arrays.{Long, hasRoom, left-out, store-long, stored}
 use Rattle.lists.specs.Elements.{unmapped}
 use Rattle.parts.proofs.Parts as the
-use Rattle.parts.specs.Parts.{changed, stateOf}
+use Rattle.parts.specs.Parts.{withChanged, stateOf}
 use Rattle.parts.specs.declared.Parts.{Parts}
 use Rattle.rules.specs.Deliver.{deliver}
 use Rattle.rules.specs.State.{withInboxes}
@@ -25,10 +25,10 @@ parts-long p vs q = record { entries = unmapped _ (p .entries) 128 (q .1 .1 .1 .
 
 -- the parts with other arrays of the inboxes alone; with another active address and another clock alone
 abbrev pub withArrays : Parts → List Entry → List ℕ → Parts
-withArrays p es cs = changed p (p .handles) cs es (p .active) (p .clock)
+withArrays p es cs = withChanged p (p .handles) cs es (p .active) (p .clock)
 
 abbrev pub movedParts : Parts → ℕ → ℕ → Parts
-movedParts p active clock = changed p (p .handles) (p .counts) (p .entries) active clock
+movedParts p active clock = withChanged p (p .handles) (p .counts) (p .entries) active clock
 
 -- q is p with an entry delivered
 pub record Delivered (p : Parts) (h : ℕ) (e : Entry) (q : Parts) : Type 0 where

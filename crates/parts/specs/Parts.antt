@@ -37,8 +37,8 @@ stateOf p = record {
 }
 
 -- the parts with other handles and inboxes, another active address and another clock
-abbrev pub changed : Parts → Handles → List ℕ → List Entry → ℕ → ℕ → Parts
-changed p handles counts entries active clock = record {
+abbrev pub withChanged : Parts → Handles → List ℕ → List Entry → ℕ → ℕ → Parts
+withChanged p handles counts entries active clock = record {
   counts = counts;
   clock = clock;
   «can_transmit» = p .«can_transmit»;

@@ -65,7 +65,7 @@ abbrev pub out : List ℕ → List ℕ
 out bytes = 0 ∷ length bytes ∷ bytes ++ replicate (16 - length bytes) 0
 
 abbrev pub gotAt : ℕ → ℕ → ℕ → ℕ → ℕ → ℕ → ℕ → List ℕ
-gotAt number tx rx size reply sent received = 0 ∷ number ∷ tx ∷ rx ∷ size ∷ 0 ∷ 0 ∷ 0 ∷ 0 ∷ reply ∷ sent ∷ received ∷ []
+gotAt number tx rx size reply sentAt receivedAt = 0 ∷ number ∷ tx ∷ rx ∷ size ∷ 0 ∷ 0 ∷ 0 ∷ 0 ∷ reply ∷ sentAt ∷ receivedAt ∷ []
 
 abbrev pub got : ℕ → ℕ → ℕ → ℕ → ℕ → List ℕ
 got number tx rx size reply = gotAt number tx rx size reply 0 0
@@ -481,7 +481,7 @@ replyAnswers =
     ∷ record { start = bench true; calls = asking 0 ∷ callMode 0 0xE0 ∷ callBusStart ∷ ok ∷ callReceive 0 ∷ []; gives = got 0 0x01 0x00 2 0x00 }
     ∷ []
 
--- document 02, W-208: a message from the TV to all, at a time; a question to it whose result comes at a time and is received; a second message on the wire; then other calls
+-- document 02, W-208: a message from the TV to all, at a time; a question to it whose result comes at a time and is received; a message on the wire; then other calls
 abbrev pub told : ℕ → Call
 told ts = incomingAt (0x0F ∷ 0x90 ∷ 0x00 ∷ []) ts
 
@@ -537,7 +537,7 @@ timestampAnswers =
     ∷ record { start = bench true; calls = askedAt 5 (told 4 ∷ callReceive 0 ∷ []); gives = EAGAIN ∷ [] }
     ∷ record { start = bench true; calls = askedAt 5 (told 4 ∷ told 6 ∷ callReceive 0 ∷ []); gives = gotAt 1 0x00 0x01 3 0x90 5 6 }
     ∷ record { start = bench true; calls = askedAt 5 (callMode 0 0xE0 ∷ told 4 ∷ callReceive 0 ∷ []); gives = EAGAIN ∷ [] }
-    -- and the clock stands: refused by its time, by its length, by its status, with nothing on the wire
+    -- and the clock stays: refused by its time, by its length, by its status, with nothing on the wire
     ∷ record { start = bench true; calls = told 5 ∷ told 4 ∷ told 4 ∷ []; gives = EINVAL ∷ [] }
     ∷ record { start = bench true; calls = told 5 ∷ callMessage 17 (replicate 16 0) 9 ∷ told 5 ∷ []; gives = 0 ∷ [] }
     ∷ record { start = bench true; calls = onWire (callBusResult 0x21 noCounts 9 ∷ okAt 5 ∷ []); gives = 0 ∷ [] }

@@ -1,4 +1,4 @@
--- The times that entries show, and those that calls carry and that are accepted (document 02, W-208). `guarantee`: Timestamps says what entries show after any calls.
+-- The times that entries show, and those that calls carry and that are accepted (document 02, W-208). `guarantee`: Timestamps says what comes with a call, and what entries show after any calls.
 -- Assumes nothing.
 use Prim.Native.Nat.{ℕ, _≤_, _<_}
 use mathlib.Core.List.{List, [], _∷_, _++_}
@@ -31,10 +31,10 @@ pub record TimesByKind : Type 0 where
   -- incoming copies only the received,
   pub messageCopies : (m : Message) (ts : ℕ) → ShowsTimes 0 ts (messageCopy m ts)
   -- matched replies both," the sent one that with which the transmit's bus result began the wait,
-  pub replies : (t : Transmission) (sent : ℕ) (m : Message) (ts : ℕ) → ShowsTimes sent ts (replyEntry (waitFor t sent) m ts)
+  pub replies : (t : Transmission) (sentAt : ℕ) (m : Message) (ts : ℕ) → ShowsTimes sentAt ts (replyEntry (waitFor t sentAt) m ts)
   -- "timeouts and aborted waits the sent;
-  pub timeouts : (t : Transmission) (sent : ℕ) → ShowsTimes sent 0 (timeoutEntry (waitFor t sent))
-  pub abortedWaits : (t : Transmission) (sent : ℕ) → ShowsTimes sent 0 (abortEntry (waitFor t sent))
+  pub timeouts : (t : Transmission) (sentAt : ℕ) → ShowsTimes sentAt 0 (timeoutEntry (waitFor t sentAt))
+  pub abortedWaits : (t : Transmission) (sentAt : ℕ) → ShowsTimes sentAt 0 (abortEntry (waitFor t sentAt))
   -- all else is 0", the results of unconfigure too
   pub abortedResults : (t : Transmission) → ShowsTimes 0 0 (abortedResult t)
   pub none : ShowsTimes 0 0 noEntry

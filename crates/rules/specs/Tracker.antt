@@ -1,4 +1,4 @@
--- The routing tracker: which physical address has the picture (document 02, W-205).
+-- The routing tracker: which physical address has the picture (document 02, W-205); and the call of a message from the wire, with the tracker and the clock (W-208).
 -- Assumes nothing.
 use Prim.Native.Nat.{ℕ}
 use mathlib.Core.Bool.{Bool, true, false, cond, _&&_, _||_}

@@ -14,7 +14,7 @@ use Rattle.handles.specs.declared.Handles.{Handles}
 use Rattle.lists.specs.Tests.{clash}
 use Rattle.inbox.proofs.Arrays.{counted, room-within}
 use Rattle.parts.proofs.Arrays.{Delivered, LongParts, leaves, parts-long, stores}
-use Rattle.parts.specs.Parts.{changed, stateOf}
+use Rattle.parts.specs.Parts.{withChanged, stateOf}
 use Rattle.parts.specs.declared.Parts.{Parts}
 use Rattle.rules.specs.Deliver.{each, handleNumbers, copies, loses, copiesBy}
 use Rattle.rules.specs.Derived.{roomTaken}
@@ -25,7 +25,7 @@ use Rattle.copies.proofs.copies.Tie as tie
 
 -- the parts with what copies change
 abbrev copied : Parts → Handles → List ℕ → List Entry → Parts
-copied p handles counts entries = changed p handles counts entries (p .active) (p .clock)
+copied p handles counts entries = withChanged p handles counts entries (p .active) (p .clock)
 
 alike : (p : Parts) (hs hs′ : Handles) (cs cs′ : List ℕ) (es es′ : List Entry) → es ≡ es′ → cs ≡ cs′ → hs ≡ hs′ → copied p hs cs es ≡ copied p hs′ cs′ es′
 alike p hs hs′ cs cs′ es es′ x y z = rw (x, y, z)

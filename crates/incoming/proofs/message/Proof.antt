@@ -21,7 +21,7 @@ use Rattle.lists.specs.Tests.{clash}
 use Rattle.message.specs.Rule.{RULE-NONE}
 use Rattle.message.specs.declared.Message.{Message}
 use Rattle.parts.proofs.Arrays.{LongParts, movedParts, parts-long}
-use Rattle.parts.specs.Parts.{changed, doneOf, stateOf}
+use Rattle.parts.specs.Parts.{withChanged, doneOf, stateOf}
 use Rattle.parts.specs.declared.Parts.{Parts}
 use Rattle.rules.specs.Deliver.{copies}
 use Rattle.rules.specs.Handles.{inRole, isHere}
@@ -184,7 +184,7 @@ returns c =
     let kind = toDo j5 .followers in
     let e = messageCopy (came j5 .message) (start j5 .args .ts) in
     let copied = told .copies2 .ensures .0 ∙ ap (λ (x : Entry). copies (inRole (getsCopies kind)) x (stateOf p)) (told .before .message-copy2 .ensures) in
-    before-copies j5 (changed p (r .handles) (r .counts) (r .entries) (p .active) (p .clock)) (copied-change p r (inRole (getsCopies kind)) e (kind ≡ NOBODY) copied (told .copies2 .ensures .1))
+    before-copies j5 (withChanged p (r .handles) (r .counts) (r .entries) (p .active) (p .clock)) (copied-change p r (inRole (getsCopies kind)) e (kind ≡ NOBODY) copied (told .copies2 .ensures .1))
 
 returns-2 : tie.Need-returns-2
 returns-2 c =
