@@ -1,4 +1,6 @@
 // The adapter and its calls, each exactly its rule. A refused call hands back the adapter that came in, its number, and nothing else.
+#![tactic(auto)]
+
 ghost use Rattle.std.specs.Prelude.{◌≢◌, ◌≡◌};
 ghost use Rattle.adapter.specs.Adapter.{state_of, done_of, opened_of, transmitted_of, received_of, started_of, active_of, refused_call, refused_open, refused_transmit, refused_receive, refused_bus_start};
 ghost use Rattle.request.specs.Request.{request_of};
@@ -17,21 +19,21 @@ use rows::Noted;
 use settings::Settings;
 
 #[repr(C)]
-#[derive(Drop)]
+#[derive(Clone, Copy)]
 pub struct Adapter {
     parts: Parts,
 }
 
 // The answers: the adapter after the call, the errno, 0 for success, and what the call gives.
 #[repr(C)]
-#[derive(Drop)]
+#[derive(Clone, Copy)]
 pub struct Done {
     pub adapter: Adapter,
     pub errno: u32,
 }
 
 #[repr(C)]
-#[derive(Drop)]
+#[derive(Clone, Copy)]
 pub struct Opened {
     pub adapter: Adapter,
     pub errno: u32,
@@ -39,7 +41,7 @@ pub struct Opened {
 }
 
 #[repr(C)]
-#[derive(Drop)]
+#[derive(Clone, Copy)]
 pub struct Transmitted {
     pub adapter: Adapter,
     pub errno: u32,
@@ -48,7 +50,7 @@ pub struct Transmitted {
 }
 
 #[repr(C)]
-#[derive(Drop)]
+#[derive(Clone, Copy)]
 pub struct Received {
     pub adapter: Adapter,
     pub errno: u32,
@@ -56,7 +58,7 @@ pub struct Received {
 }
 
 #[repr(C)]
-#[derive(Drop)]
+#[derive(Clone, Copy)]
 pub struct Started {
     pub adapter: Adapter,
     pub errno: u32,

@@ -1,4 +1,6 @@
 // The end of the transmission on the wire.
+#![tactic(auto)]
+
 ghost use Rattle.std.specs.Prelude.{◌≢◌, ◌≡◌};
 ghost use Rattle.parts.specs.Parts.{state_of, done_of};
 ghost use Rattle.rules.specs.BusResult.{bus_result_refusal, do_bus_result, wait_for};

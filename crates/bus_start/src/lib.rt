@@ -1,4 +1,6 @@
 // Bus start.
+#![tactic(auto)]
+
 ghost use Rattle.std.specs.Prelude.{◌≢◌, ◌≡◌};
 ghost use Rattle.bus_start.specs.Started.{started_of, refused_bus_start};
 ghost use Rattle.parts.specs.Parts.{state_of};
@@ -10,7 +12,7 @@ use parts::{Parts, check};
 
 // The parts after the call, its errno, 0 for success, and what goes out.
 #[repr(C)]
-#[derive(Drop)]
+#[derive(Clone, Copy)]
 pub struct Started {
     pub parts: Parts,
     pub errno: u32,

@@ -1,4 +1,6 @@
 // Masks on the status byte of a bus result.
+#![tactic(auto)]
+
 ghost use Rattle.std.specs.Prelude.{true, cond, ◌≡◌};
 ghost use Rattle.constants.specs.Kernel.{CEC-TX-STATUS-OK};
 ghost use Rattle.rules.specs.BusResult.{is_final, kept_counts};

@@ -1,4 +1,6 @@
 // Close.
+#![tactic(auto)]
+
 ghost use Rattle.std.specs.Prelude.{◌≢◌, ◌≡◌};
 ghost use Rattle.parts.specs.Parts.{state_of, done_of};
 ghost use Rattle.rules.specs.Close.{do_close, close_refusal};

@@ -1,4 +1,6 @@
 // The calls of the adapter for programs in C (include/clothbadger.h): each takes the adapter by value, and its promise is that of the call in crate `adapter` or `listing`.
+#![tactic(auto)]
+
 ghost use Rattle.std.specs.Prelude.{◌≢◌, ◌≡◌};
 ghost use prog.Memory.{size};
 ghost use Rattle.adapter.proofs.Adapter.TheLaws as adapter-laws;

@@ -1,4 +1,6 @@
 // Compares two recorded sessions: `compare LEFT RIGHT`.
+#![tactic(auto)]
+
 use libc::STDERR_FILENO;
 
 fn compare(left: i32, right: i32) {

@@ -1,4 +1,6 @@
 // Compares recorded sessions in pairs, each in small portions: `compare_pairs LEFT RIGHT LEFT RIGHT ..`.
+#![tactic(auto)]
+
 
 // Opens the file that an argument names; says so if that fails.
 fn open(i: usize) -> i32 {

@@ -1,4 +1,6 @@
 // Two recorded sessions compared while they come in portions.
+#![tactic(auto)]
+
 ghost use Rattle.std.specs.Prelude.{◌≡◌, ℕ, ◌≤◌, false, ◌||◌, List, length};
 ghost use Rattle.comparison.specs.Compare.{field_of, meant, same_bytes, kinds};
 ghost use Rattle.comparison.specs.Comparing.{met, alone, counted, is_wanted, fed_side, settled, fresh_comparing, side_of, fed, over, answer_of};
@@ -27,7 +29,7 @@ pub const CUT: u8 = 2;
 
 // One of the two logs: where it is read, the length of a whole record that waits for one of the other log, 0 for none, and whether nothing more comes.
 #[repr(C)]
-#[derive(Drop)]
+#[derive(Clone, Copy)]
 pub struct Side {
     cursor: Cursor,
     waits: usize,
@@ -35,7 +37,7 @@ pub struct Side {
 }
 
 #[repr(C)]
-#[derive(Drop)]
+#[derive(Clone, Copy)]
 struct Took {
     side: Side,
     taken: usize,
@@ -43,7 +45,7 @@ struct Took {
 
 // The number and the place of the next two records, or of the first that differ.
 #[repr(C)]
-#[derive(Drop)]
+#[derive(Clone, Copy)]
 pub struct Progress {
     number: u64,
     place: u64,
@@ -52,7 +54,7 @@ pub struct Progress {
 
 // Both logs, without their bytes and counts.
 #[repr(C)]
-#[derive(Drop)]
+#[derive(Clone, Copy)]
 pub struct Both {
     left: Side,
     right: Side,
@@ -61,7 +63,7 @@ pub struct Both {
 
 // Both logs, the bytes of a record of each, and how many records of each kind have come.
 #[repr(C)]
-#[derive(Drop)]
+#[derive(Clone, Copy)]
 pub struct Comparer {
     both: Both,
     left_bytes: [u8; 28],
@@ -72,7 +74,7 @@ pub struct Comparer {
 
 // The comparer after a portion of each log, and how many bytes of each were taken.
 #[repr(C)]
-#[derive(Drop)]
+#[derive(Clone, Copy)]
 pub struct Fed {
     pub comparer: Comparer,
     pub left: usize,
@@ -81,7 +83,7 @@ pub struct Fed {
 
 // How many records of each kind a log has, how it ends, and where.
 #[repr(C)]
-#[derive(Drop)]
+#[derive(Clone, Copy)]
 pub struct End {
     pub counts: [u64; 11],
     pub ending: u8,
@@ -90,7 +92,7 @@ pub struct End {
 
 // What differs first, if anything does; the number of that record, and its offset in each log; and how each log ends.
 #[repr(C)]
-#[derive(Drop)]
+#[derive(Clone, Copy)]
 pub struct Comparison {
     pub what: u8,
     pub number: u64,
@@ -102,7 +104,7 @@ pub struct Comparison {
 
 // Where a record of a kind has a length, and for how many bytes there is room after it.
 #[repr(C)]
-#[derive(Drop)]
+#[derive(Clone, Copy)]
 struct Field {
     length_at: usize,
     size: u8,
@@ -110,7 +112,7 @@ struct Field {
 
 // Where the bytes past a length begin and end.
 #[repr(C)]
-#[derive(Drop)]
+#[derive(Clone, Copy)]
 struct Past {
     from: usize,
     to: usize,

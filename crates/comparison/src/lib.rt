@@ -1,1 +1,3 @@
 // Two recorded sessions compared: definitions and theorems, no code.
+#![tactic(auto)]
+

@@ -1,4 +1,6 @@
 // What is printed of a comparison, written into a lent buffer.
+#![tactic(auto)]
+
 ghost use Rattle.std.specs.Prelude.{◌+◌, ◌≤◌, ◌<◌, [], ◌∷◌, ◌++◌, ◌≡◌, length, drop};
 ghost use Rattle.comparer.specs.Comparer.{what_in, verdict_in, end_in};
 ghost use Rattle.comparison.specs.Compare.{kinds};

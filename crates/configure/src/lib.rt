@@ -1,4 +1,6 @@
 // Configure.
+#![tactic(auto)]
+
 ghost use Rattle.std.specs.Prelude.{◌-◌, ◌++◌, ◌≢◌, ◌≡◌, take, replicate};
 ghost use Rattle.configure.specs.Mask.{set_bits};
 ghost use Rattle.parts.specs.Parts.{state_of, done_of};

@@ -1,4 +1,6 @@
 // Copies for monitors and followers, of messages and of results.
+#![tactic(auto)]
+
 ghost use Rattle.std.specs.Prelude.{◌+◌, min, ◌≡◌};
 ghost use Rattle.copies.specs.Kinds.{gets_copies, NOBODY};
 ghost use Rattle.handles.specs.Roles.{handles_of};

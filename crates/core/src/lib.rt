@@ -1,4 +1,6 @@
 // What the core answers to a message, byte for byte.
+#![tactic(auto)]
+
 ghost use Rattle.core.specs.Prelude.{◌≡◌, true, false};
 ghost use Rattle.core.specs.Work.{message_of, abort_of, features_work, work_of};
 ghost use Rattle.constants.specs.Kernel.{CEC-LOG-ADDR-BROADCAST};
@@ -17,7 +19,7 @@ use message::Message;
 use settings::Settings;
 
 // Whether a message is a question that the core answers, or reports an address; and the answer.
-#[derive(Drop)]
+#[derive(Clone, Copy)]
 pub struct Work {
     pub is_question: bool,
     pub is_report: bool,

@@ -1,10 +1,12 @@
 // Where a log is read: how many bytes of a record have come, the place of its kind, and whether an unknown kind has come.
+#![tactic(auto)]
+
 ghost use Rattle.std.specs.Prelude.{◌≡◌, ◌≤◌, false};
 ghost use Rattle.log.specs.Record.{is_kind, body_length};
 ghost use Rattle.cursor.specs.Cursor.{at_most28, is_bad, call_number, next_cursor};
 
 #[repr(C)]
-#[derive(Drop)]
+#[derive(Clone, Copy)]
 pub struct Cursor {
     pub count: usize,
     pub place: u64,

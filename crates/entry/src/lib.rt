@@ -1,4 +1,6 @@
 // An entry of an inbox, one constructor for each kind.
+#![tactic(auto)]
+
 ghost use Rattle.std.specs.Prelude.{◌≡◌};
 ghost use Rattle.entry.specs.Entry.{no_counts, result_entry, result_copy, rx_entry, matched, reply, feature_abort_reply, timed_out, aborted, message_copy, no_entry};
 
@@ -9,7 +11,7 @@ use message::Message;
 
 // How often each thing went wrong on the wire.
 #[repr(C)]
-#[derive(Drop)]
+#[derive(Clone, Copy)]
 pub struct Counts {
     pub arb_lost: u8,
     pub nack: u8,
@@ -19,7 +21,7 @@ pub struct Counts {
 
 // The times are in nanoseconds: when the message that was sent had gone out, and when the one that is shown had come.
 #[repr(C)]
-#[derive(Drop)]
+#[derive(Clone, Copy)]
 pub struct Entry {
     pub sequence: u32,
     pub tx_status: u8,

@@ -1,4 +1,6 @@
 // The fields of a record's 28 bytes. Numbers are low byte first.
+#![tactic(auto)]
+
 ghost use Rattle.std.specs.Prelude.{◌+◌, ◌≤◌, ◌≡◌, [], ◌∷◌, length, take, drop};
 ghost use Rattle.log.specs.Record.{number_at, request_in, counts_in, settings_in};
 ghost use Rattle.request.specs.Request.{request_of};

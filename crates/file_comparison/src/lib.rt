@@ -1,4 +1,6 @@
 // Two logs that are read from files in portions, and compared.
+#![tactic(auto)]
+
 ghost use Rattle.std.specs.Prelude.{◌≤◌, ◌≡◌, length};
 
 use comparer::{Comparer, Comparison};
@@ -6,7 +8,7 @@ use libc::STDOUT_FILENO;
 
 // What a buffer holds of a log: from one place up to another.
 #[repr(C)]
-#[derive(Drop)]
+#[derive(Clone, Copy)]
 struct Window {
     at: usize,
     end: usize,
@@ -38,7 +40,7 @@ fn closed(comparer: Comparer, right: bool, window: Window) -> Comparer {
 }
 
 #[repr(C)]
-#[derive(Drop)]
+#[derive(Clone, Copy)]
 struct Turned {
     comparer: Comparer,
     left: Window,

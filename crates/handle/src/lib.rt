@@ -1,8 +1,10 @@
 // A handle, through which one program uses the adapter, and its row in the listing.
+#![tactic(auto)]
+
 
 // What the adapter keeps of a handle besides its inbox.
 #[repr(C)]
-#[derive(Drop)]
+#[derive(Clone, Copy)]
 pub struct Handle {
     pub is_open: bool,
     pub privileged: bool,
@@ -11,7 +13,7 @@ pub struct Handle {
 }
 
 #[repr(C)]
-#[derive(Drop)]
+#[derive(Clone, Copy)]
 pub struct Row {
     pub number: u8,
     pub is_open: bool,

@@ -1,4 +1,6 @@
 // The eight handles, by number, and the roles that their modes give them.
+#![tactic(auto)]
+
 ghost use Rattle.std.specs.Prelude.{◌≤◌, ◌≡◌, length, get_or, set, replicate};
 ghost use Rattle.lists.specs.Places.{first, without};
 ghost use Rattle.rules.specs.State.{closed_handle};
@@ -12,13 +14,13 @@ use handle::Handle;
 const NO_HANDLE: u8 = 8;
 
 #[repr(C)]
-#[derive(Drop)]
+#[derive(Clone, Copy)]
 pub struct Handles {
     slots: [Handle; 8],
 }
 
 // Which roles are held.
-#[derive(Drop)]
+#[derive(Clone, Copy)]
 pub struct Roles {
     pub exclusive_initiator: bool,
     pub exclusive_follower: bool,

@@ -1,11 +1,13 @@
 // All eight inboxes, 16 entries a handle, oldest first: handle h's in the 16 places from 16 * h on of one array.
+#![tactic(auto)]
+
 ghost use Rattle.std.specs.Prelude.{◌≤◌, min, ◌≡◌, [], get_or, replicate};
 ghost use Rattle.inbox.specs.Inboxes.{inboxes_of, delivered, cleared};
 
 use entry::Entry;
 
 #[repr(C)]
-#[derive(Drop)]
+#[derive(Clone, Copy)]
 pub struct Inboxes {
     pub entries: [Entry; 128],
     pub counts: [usize; 8],

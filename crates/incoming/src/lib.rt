@@ -1,4 +1,6 @@
 // A message from the wire, in six steps, for the tracker and for the clock.
+#![tactic(auto)]
+
 ghost use Rattle.std.specs.Prelude.{◌≡◌, ◌≢◌, if◌then◌else◌};
 ghost use Rattle.parts.specs.Parts.{state_of, done_of};
 ghost use Rattle.rules.specs.Handles.{is_here};
@@ -20,7 +22,7 @@ use transmission::Transmission;
 use wait::Wait;
 
 // A message as it comes: its errno, the active address and the clock afterwards, and which monitors get a copy.
-#[derive(Drop)]
+#[derive(Clone, Copy)]
 struct Arrival {
     errno: u32,
     message: Message,
@@ -30,7 +32,7 @@ struct Arrival {
 }
 
 // What is to be done in steps 3 to 6: by which rule the wait at a place ends with a reply, if any does, whether an address is noted, whether the core sends a message, and who gets copies.
-#[derive(Drop)]
+#[derive(Clone, Copy)]
 struct ToDo {
     rule: u8,
     place: usize,

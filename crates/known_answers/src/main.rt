@@ -1,4 +1,6 @@
 // The known answers of document 01, and those of the later requests up to W-208 that have some, asked of the code: one line for each case with what it gave.
+#![tactic(auto)]
+
 use adapter::{Adapter, Done};
 use constants::{
     CEC_MODE_EXCL_INITIATOR, CEC_MODE_FOLLOWER, CEC_MODE_INITIATOR, CEC_MODE_MONITOR,
@@ -84,7 +86,7 @@ fn request(length: u8, first: u8, opcode: u8, reply: u8) -> Request {
 }
 
 // What a case gave: an errno, and a status where there is one.
-#[derive(Drop)]
+#[derive(Clone, Copy)]
 struct Given {
     errno: u32,
     status: u32,

@@ -1,4 +1,6 @@
 // Listing: "The listing fills a lent table of rows, one per handle number".
+#![tactic(auto)]
+
 ghost use Rattle.std.specs.Prelude.{map, ◌≡◌, ◌<◌};
 ghost use Rattle.adapter.specs.Adapter.{state_of};
 ghost use Rattle.listing.specs.Rows.{Lists};
@@ -12,7 +14,7 @@ use rows::closed_row;
 
 // The errno, and the rows as they are left.
 #[repr(C)]
-#[derive(Drop)]
+#[derive(Clone, Copy)]
 pub struct Listed {
     pub errno: u32,
     pub rows: [Row; 8],

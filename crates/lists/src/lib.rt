@@ -1,4 +1,6 @@
 // Definitions and laws on lists, in specs/. The code is a number held to a limit.
+#![tactic(auto)]
+
 ghost use Rattle.std.specs.Prelude.{◌≤◌, min, ◌≡◌};
 
 pub fn at_most(n: usize, most: usize) -> usize

@@ -1,4 +1,6 @@
 // A CEC message by value, and the reply test on messages and on byte slices.
+#![tactic(auto)]
+
 ghost use Rattle.std.specs.Prelude.{◌≡◌, ◌≤◌, ◌+◌, ◌*◌, ◌/◌, get_or};
 ghost use Rattle.message.specs.Message.{message, contents, sent_length, initiator, destination, opcode, address_at};
 
@@ -6,7 +8,7 @@ pub mod reply;
 
 // A length of at most 16, and 16 bytes that are 0 past it.
 #[repr(C)]
-#[derive(Drop)]
+#[derive(Clone, Copy)]
 pub struct Message {
     length: u8,
     bytes: [u8; 16],

@@ -93,7 +93,7 @@ fn byte_at(s: &[u8], i: usize) -> u8
 }
 
 // What the test looks at: the length, and the first three bytes, 0 where there is none.
-#[derive(Drop)]
+#[derive(Clone, Copy)]
 struct Prefix {
     length: usize,
     first: u8,

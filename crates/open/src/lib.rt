@@ -1,4 +1,6 @@
 // Open.
+#![tactic(auto)]
+
 ghost use Rattle.std.specs.Prelude.{◌≢◌, ◌≡◌};
 ghost use Rattle.parts.specs.Parts.{state_of};
 ghost use Rattle.open.specs.Answer.{opened_of, refused_open};
@@ -10,7 +12,7 @@ use parts::{Parts, check};
 
 // The parts after the call, its errno, 0 for success, and the handle.
 #[repr(C)]
-#[derive(Drop)]
+#[derive(Clone, Copy)]
 pub struct Opened {
     pub parts: Parts,
     pub errno: u32,

@@ -1,4 +1,6 @@
 // The adapter's parts, and what each call asks of them.
+#![tactic(auto)]
+
 ghost use Rattle.std.specs.Prelude.{◌≤◌, ◌≡◌, length};
 ghost use Rattle.inbox.specs.Inboxes.{inboxes_of, inbox_of};
 ghost use Rattle.rules.specs.Call.{check};
@@ -20,7 +22,7 @@ use wire::Wire;
 // The inboxes lie in `entries`, handle h's in the 16 places from 16 * h on, with their `counts` apart: arrays that lie in the struct itself are written in place.
 // The order is by measurement: with the counts first, the entries last and the queue before the wire the compiler copies least.
 #[repr(C)]
-#[derive(Drop)]
+#[derive(Clone, Copy)]
 pub struct Parts {
     pub counts: [usize; 8],
     pub clock: u64,
@@ -39,7 +41,7 @@ pub struct Parts {
 
 // The parts after a call that gives nothing more, and its errno, 0 for success.
 #[repr(C)]
-#[derive(Drop)]
+#[derive(Clone, Copy)]
 pub struct Done {
     pub parts: Parts,
     pub errno: u32,

@@ -1,4 +1,6 @@
 // One record of each kind, played: the call of the adapter that it stands for, and what the answer says.
+#![tactic(auto)]
+
 ghost use Rattle.std.specs.Prelude.{[], ◌∷◌, ◌≡◌};
 ghost use Rattle.adapter.specs.Adapter.{state_of};
 ghost use Rattle.log.specs.Record.{byte_at, number_at, open_of, mode_of, transmit_of, result_of, incoming_of, configure_of};
@@ -12,7 +14,7 @@ use fields::{counts_of, message_bytes, number_4, number_8, request_of, settings_
 use text::Said;
 
 // The adapter after a record, and what the record's line says.
-#[derive(Drop)]
+#[derive(Clone, Copy)]
 pub struct Played {
     pub adapter: Adapter,
     pub said: Said,

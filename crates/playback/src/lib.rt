@@ -1,4 +1,6 @@
 // A log that is read from a file in portions, and played; its lines go to standard output.
+#![tactic(auto)]
+
 ghost use Rattle.std.specs.Prelude.{◌≤◌, ◌≡◌, length};
 ghost use Rattle.io.specs.Counts.{IsPrefixLen};
 ghost use Rattle.log.specs.Session.{fed};

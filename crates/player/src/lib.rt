@@ -1,4 +1,6 @@
 // A recorded session, played again: a player takes the log in portions, and puts a line for each record into a lent buffer.
+#![tactic(auto)]
+
 ghost use Rattle.std.specs.Prelude.{suc, ◌+◌, ◌-◌, ◌≤◌, ◌<◌, ◌≢◌, ◌≡◌, length, take};
 ghost use Rattle.log.specs.Gather.{gather, gathered};
 ghost use Rattle.log.specs.Record.{body_length};
@@ -15,7 +17,7 @@ use text::{LINE_MAX, Said, answer_line, bad_line, cut_line};
 
 // The adapter, the bytes of a record that is not whole yet, and where the log is read.
 #[repr(C)]
-#[derive(Drop)]
+#[derive(Clone, Copy)]
 pub struct Player {
     adapter: Adapter,
     bytes: [u8; 28],
@@ -24,7 +26,7 @@ pub struct Player {
 
 // The player after a portion, the errno, 0 for success, how many bytes of the portion were taken, and how many were written.
 #[repr(C)]
-#[derive(Drop)]
+#[derive(Clone, Copy)]
 pub struct Fed {
     pub player: Player,
     pub errno: u32,
@@ -33,7 +35,7 @@ pub struct Fed {
 }
 
 #[repr(C)]
-#[derive(Drop)]
+#[derive(Clone, Copy)]
 pub struct Finished {
     pub errno: u32,
     pub written: usize,

@@ -1,4 +1,6 @@
 // Plays a log in portions of a given size, with a small buffer for the lines: `portions FILE SIZE`.
+#![tactic(auto)]
+
 ghost use Rattle.std.specs.Prelude.{◌≤◌};
 
 fn digit(byte: u8) -> usize

@@ -1,4 +1,6 @@
 // The transmit queue: at most 18 transmissions, first in, first out.
+#![tactic(auto)]
+
 ghost use Rattle.std.specs.Prelude.{◌≡◌, ◌≤◌, [], map, length, drop, slice_index_or};
 ghost use Rattle.lists.specs.Sums.{any};
 ghost use Rattle.lists.specs.Vector.{put};
@@ -12,7 +14,7 @@ use transmission::{Owed, Transmission};
 
 // A ring of 32 slots: head and tail are positions, which run on and wrap, and the slot of a position is that number modulo 32.
 #[repr(C)]
-#[derive(Drop)]
+#[derive(Clone, Copy)]
 pub struct Queue {
     head: u32,
     tail: u32,

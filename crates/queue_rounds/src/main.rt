@@ -1,5 +1,7 @@
 // Queues whose head begins at a position: 10,000 transmissions go through each, from place 31 to 0 hundreds of times and, near the greatest position, across the wrap.
 // For each it prints how many came out in their turn, and then what is queued of 19 that were put across the wrap, before a close and after it.
+#![tactic(auto)]
+
 use queue::Queue;
 use transmission::Transmission;
 
@@ -8,7 +10,7 @@ const MANY: u32 = 10000;
 // The greatest position, after which 0 comes.
 const LAST: u32 = 4294967295;
 
-#[derive(Drop)]
+#[derive(Clone, Copy)]
 struct Run {
     queue: Queue,
     put: u32,

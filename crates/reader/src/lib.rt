@@ -1,4 +1,6 @@
 // Reading a log in portions: the bytes of a record are gathered until it is whole. The player and the comparer stand on this.
+#![tactic(auto)]
+
 ghost use Rattle.std.specs.Prelude.{◌≡◌, suc, ◌+◌, ◌-◌, ◌<◌, ◌≤◌, false, length, take};
 ghost use Rattle.reading.specs.Gather.{gather, gathered};
 ghost use Rattle.reading.specs.Reading.{turn};
@@ -9,7 +11,7 @@ ghost use Rattle.reader.specs.Turn.{reading_of, turn_of, call_in};
 // Where a log is read: how many bytes of a record have come, the place of its kind, and whether an unknown kind has come.
 
 #[repr(C)]
-#[derive(Drop)]
+#[derive(Clone, Copy)]
 pub struct Cursor {
     pub count: usize,
     pub place: u64,
@@ -18,7 +20,7 @@ pub struct Cursor {
 
 // A turn of reading: the cursor after it, how many bytes of the portion it took, and, where they made a record whole, the number of its call and its length. These are 0 where none is whole.
 #[repr(C)]
-#[derive(Drop)]
+#[derive(Clone, Copy)]
 pub struct Turn {
     pub cursor: Cursor,
     pub taken: usize,

@@ -1,4 +1,6 @@
 // The oldest entry of a handle's inbox, taken out: the others move down.
+#![tactic(auto)]
+
 ghost use Rattle.std.specs.Prelude.{◌≢◌, ◌≡◌};
 ghost use Rattle.parts.specs.Parts.{state_of};
 ghost use Rattle.receive.specs.Answer.{received_of, refused_receive};
@@ -11,7 +13,7 @@ use parts::{Parts, check};
 
 // The parts after the call, its errno, 0 for success, and the entry.
 #[repr(C)]
-#[derive(Drop)]
+#[derive(Clone, Copy)]
 pub struct Received {
     pub parts: Parts,
     pub errno: u32,

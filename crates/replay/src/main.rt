@@ -1,4 +1,6 @@
 // Plays a recorded session again: the file that is named, or standard input.
+#![tactic(auto)]
+
 use libc::STDIN_FILENO;
 
 fn replay(fd: i32) {

@@ -1,4 +1,6 @@
 // What a transmit is asked for, and the checks that look at nothing else.
+#![tactic(auto)]
+
 ghost use Rattle.std.specs.Prelude.{◌≡◌, get_or};
 ghost use Rattle.rules.specs.Transmit.{request_message, from, to, wants_reply, is_poll, is_malformed, is_poll_invalid, is_wake_up, timeout_of};
 ghost use Rattle.request.specs.Request.{request_of};
@@ -10,7 +12,7 @@ use constants::{
 use message::Message;
 
 #[repr(C)]
-#[derive(Drop)]
+#[derive(Clone, Copy)]
 pub struct Request {
     pub length: u8,
     pub bytes: [u8; 16],

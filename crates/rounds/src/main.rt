@@ -1,4 +1,6 @@
 // A benchmark: 10,000 rounds of transmit, bus start, bus result and receive. It prints how many numbers were given.
+#![tactic(auto)]
+
 use adapter::Adapter;
 use constants::{CEC_LOG_ADDR_UNREGISTERED, CEC_TX_STATUS_OK};
 use entry::Counts;

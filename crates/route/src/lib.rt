@@ -1,4 +1,6 @@
 // Which way to a physical address: the deepest common ancestor of two, whether the first lies on the path to the second, and through which of its ports.
+#![tactic(auto)]
+
 ghost use Rattle.std.specs.Prelude.{◌≡◌};
 ghost use Rattle.route.specs.Address.{depth, digit_at};
 ghost use Rattle.route.specs.Route.{port, route_of};
@@ -10,7 +12,7 @@ use constants::EINVAL;
 
 // The errno, 0 for success, and the answer.
 #[repr(C)]
-#[derive(Drop)]
+#[derive(Clone, Copy)]
 pub struct Route {
     pub errno: u32,
     pub ancestor: u16,

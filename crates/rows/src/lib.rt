@@ -1,4 +1,6 @@
 // The row of a handle in the listing, and the lookup of a noted address. Both change nothing.
+#![tactic(auto)]
+
 ghost use Rattle.std.specs.Prelude.{false, ◌≢◌, ◌≡◌};
 ghost use Rattle.parts.specs.Parts.{state_of};
 ghost use Rattle.rows.specs.Noted.{noted_of, refused_lookup};
@@ -11,7 +13,7 @@ use parts::{Parts, check};
 
 // The errno of the lookup, 0 for success, and the noted address.
 #[repr(C)]
-#[derive(Drop)]
+#[derive(Clone, Copy)]
 pub struct Noted {
     pub errno: u32,
     pub address: u16,

@@ -1,4 +1,6 @@
 // Another mode for a handle: the checks in their order, and the change.
+#![tactic(auto)]
+
 ghost use Rattle.std.specs.Prelude.{◌≢◌, ◌≡◌};
 ghost use Rattle.parts.specs.Parts.{state_of, done_of};
 ghost use Rattle.rules.specs.Mode.{do_mode, mode_refusal, is_mode, is_monitor_initiator, is_unable_follower, is_monitor_all_unable, is_mode_invalid, is_role_held};

@@ -1,7 +1,9 @@
 // What configure sets: the addresses of the box and what it tells of itself. The last three are for CEC 2.0.
+#![tactic(auto)]
+
 
 #[repr(C)]
-#[derive(Drop)]
+#[derive(Clone, Copy)]
 pub struct Settings {
     pub physical_address: u16,
     pub mask: u16,

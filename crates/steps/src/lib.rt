@@ -1,4 +1,6 @@
 // Which steps are to be done with a message from the wire, once it is known whether it is a reply.
+#![tactic(auto)]
+
 ghost use Rattle.std.specs.Prelude.{◌≡◌};
 ghost use Rattle.handles.specs.Roles.{handles_of};
 ghost use Rattle.rules.specs.Core.{is_directed, is_registered};
@@ -10,7 +12,7 @@ use handles::Handles;
 use message::Message;
 
 // What is to be done in steps 4 to 6.
-#[derive(Drop)]
+#[derive(Clone, Copy)]
 pub struct Chosen {
     pub notes: bool,
     pub answers: bool,

@@ -1,4 +1,6 @@
 // The lines of a replay, and words and numbers of other lines, written into a lent buffer.
+#![tactic(auto)]
+
 ghost use Rattle.std.specs.Prelude.{◌+◌, ◌≤◌, ◌<◌, true, false, [], ◌∷◌, ◌++◌, ◌≡◌, length};
 ghost use Rattle.log.specs.Text.{decimal, blanked, line_of, bad_line, cut_line};
 ghost use Rattle.text.specs.Line.{said_of, PutAt, RoomAt, LineAt};
@@ -10,7 +12,7 @@ pub const LINE_MAX: usize = 29;
 
 // What an answer says: an errno, 0 for success, or an entry that was received.
 #[repr(C)]
-#[derive(Drop)]
+#[derive(Clone, Copy)]
 pub struct Said {
     pub errno: u32,
     pub is_entry: bool,

@@ -1,4 +1,6 @@
 // Time passes, and ends waits.
+#![tactic(auto)]
+
 ghost use Rattle.std.specs.Prelude.{◌≡◌};
 ghost use Rattle.parts.specs.Parts.{state_of, done_of};
 ghost use Rattle.rules.specs.Time.{do_time};

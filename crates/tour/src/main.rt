@@ -1,4 +1,6 @@
 // The camera program and the chart program share one wire, later with a controller. Each line says which program got what, under which number, and where the picture is.
+#![tactic(auto)]
+
 ghost use Rattle.std.specs.Prelude.{◌≤◌};
 
 use adapter::Adapter;

@@ -1,4 +1,6 @@
 // The routing tracker: the active address after a message from the wire.
+#![tactic(auto)]
+
 ghost use Rattle.std.specs.Prelude.{◌≡◌};
 ghost use Rattle.rules.specs.Tracker.{is_of, names_active, named_address, sets_active, clears_active, tracked};
 

@@ -1,4 +1,6 @@
 // What is on its way: the queue, the wire and the waits for replies.
+#![tactic(auto)]
+
 ghost use Rattle.std.specs.Prelude.{◌≤◌, ◌≡◌};
 ghost use Rattle.rules.specs.Number.{candidate, sequence_after};
 ghost use Rattle.rules.specs.Owed.{room_owed, replies_wanted, is_taken};

@@ -1,4 +1,6 @@
 // A message to send, and who is owed what for it.
+#![tactic(auto)]
+
 ghost use Rattle.std.specs.Prelude.{◌≤◌, ◌≡◌};
 ghost use Rattle.transmission.specs.Transmission.{ownerless, no_transmission, orphaned, owed_for};
 
@@ -8,7 +10,7 @@ use message::Message;
 pub const NO_OWNER: u8 = 255;
 
 #[repr(C)]
-#[derive(Drop)]
+#[derive(Clone, Copy)]
 pub struct Transmission {
     pub sequence: u32,
     pub owner: u8,
@@ -20,7 +22,7 @@ pub struct Transmission {
 }
 
 // What is owed to a handle: room in its inbox, and replies that it wants.
-#[derive(Drop)]
+#[derive(Clone, Copy)]
 pub struct Owed {
     pub room: usize,
     pub replies: usize,

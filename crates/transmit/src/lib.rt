@@ -1,4 +1,6 @@
 // A message to send: the checks in their order, and the queue.
+#![tactic(auto)]
+
 ghost use Rattle.std.specs.Prelude.{◌≤◌, ◌≢◌, ◌≡◌};
 ghost use Rattle.parts.specs.Parts.{state_of};
 ghost use Rattle.request.specs.Request.{request_of};
@@ -16,7 +18,7 @@ use transmission::Transmission;
 
 // The parts after the call, its errno, 0 for success, the sequence number and tx_status.
 #[repr(C)]
-#[derive(Drop)]
+#[derive(Clone, Copy)]
 pub struct Transmitted {
     pub parts: Parts,
     pub errno: u32,

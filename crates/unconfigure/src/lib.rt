@@ -1,4 +1,6 @@
 // The adapter without an address. The inboxes are taken out of the parts for the entries, and put back once.
+#![tactic(auto)]
+
 ghost use Rattle.std.specs.Prelude.{◌≡◌};
 ghost use Rattle.unconfigure.specs.Aborted.{transmits_aborted, waits_aborted};
 ghost use Rattle.inbox.specs.Inboxes.{inboxes_of, delivered};

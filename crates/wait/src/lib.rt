@@ -1,4 +1,6 @@
 // A wait for the reply to a message that was sent, with the time of its bus result in nanoseconds.
+#![tactic(auto)]
+
 ghost use Rattle.std.specs.Prelude.{◌≤◌, ◌≡◌};
 ghost use Rattle.lists.specs.Tests.{bit};
 ghost use Rattle.wait.specs.Wait.{no_wait, owned_by, rule_for, reduced};
@@ -6,7 +8,7 @@ ghost use Rattle.wait.specs.Wait.{no_wait, owned_by, rule_for, reduced};
 use message::Message;
 
 #[repr(C)]
-#[derive(Drop)]
+#[derive(Clone, Copy)]
 pub struct Wait {
     pub owner: u8,
     pub sequence: u32,

@@ -1,4 +1,6 @@
 // All waits of the adapter: at most 32 in one list, oldest first.
+#![tactic(auto)]
+
 ghost use Rattle.std.specs.Prelude.{◌≤◌, ◌<◌, ◌≡◌, [], map, ltb, length, get_or, cond};
 ghost use Rattle.lists.specs.Sums.{any, count};
 ghost use Rattle.lists.specs.Places.{least, without};
@@ -11,7 +13,7 @@ use message::reply::RULE_NONE;
 use wait::Wait;
 
 #[repr(C)]
-#[derive(Drop)]
+#[derive(Clone, Copy)]
 pub struct Waits {
     slots: [Wait; 32],
     count: usize,
@@ -19,7 +21,7 @@ pub struct Waits {
 
 // The waits after one may have been taken out, and that one.
 #[repr(C)]
-#[derive(Drop)]
+#[derive(Clone, Copy)]
 pub struct Ended {
     pub found: bool,
     pub wait: Wait,
@@ -28,7 +30,7 @@ pub struct Ended {
 
 // The oldest wait that a message ends: its place and the rule. Where there is none, the count and no rule.
 #[repr(C)]
-#[derive(Drop)]
+#[derive(Clone, Copy)]
 pub struct Match {
     pub place: usize,
     pub rule: u8,

@@ -1,4 +1,6 @@
 // The wire: at most one transmission.
+#![tactic(auto)]
+
 ghost use Rattle.std.specs.Prelude.{◌≤◌, ◌≡◌, [], map, length, drop};
 ghost use Rattle.lists.specs.Sums.{any};
 ghost use Rattle.lists.specs.Vector.{put};
@@ -8,7 +10,7 @@ ghost use Rattle.wire.specs.Wire.{wire_of};
 use transmission::{Owed, Transmission};
 
 #[repr(C)]
-#[derive(Drop)]
+#[derive(Clone, Copy)]
 pub struct Wire {
     busy: bool,
     slot: Transmission,
