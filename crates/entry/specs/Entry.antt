@@ -12,7 +12,7 @@ no_counts = record { arb_lost = 0; nack = 0; low_drive = 0; error = 0 }
 
 -- "A result shows the status, the kept counts, and the sent length and bytes", under the transmit's number; "Results and copies show 0" (W-207); "Bus results and their copies show only the sent time" (W-208)
 abbrev pub result_entry : ℕ → ℕ → Counts → Message → ℕ → Entry
-result sequence status counts sent sent_at = record { sequence = sequence; tx_status = status; rx_status = 0; message = sent; counts = counts; reply = 0; tx_ts = sent_at; rx_ts = 0 }
+result_entry sequence status counts sent sent_at = record { sequence = sequence; tx_status = status; rx_status = 0; message = sent; counts = counts; reply = 0; tx_ts = sent_at; rx_ts = 0 }
 
 -- "each monitor, ascending, gets a copy (sequence 0)"
 abbrev pub result_copy : ℕ → Counts → Message → ℕ → Entry
