@@ -9,7 +9,7 @@ use Rattle.comparison.proofs.Compare.{past_byte, kind_not_past, length_not_past,
 use Rattle.comparison.specs.Compare.{field_of, meant, is_past, same_bytes}
 use Rattle.lists.specs.Elements.{empty_list}
 use Rattle.lists.specs.Tests.{split, clash, and-false, or-true}
-use Rattle.log.specs.Record.{byte_at, kind_of}
+use Rattle.session_log.specs.Record.{byte_at, kind_of}
 
 -- a kind with no length
 pub no_length : (kind : ℕ) → kind ≢ 4 → kind ≢ 9 → kind ≢ 10 → field_of kind ≡ record { length_at = 0; size = 0 }

@@ -12,10 +12,10 @@ use Rattle.comparison.specs.Comparing.{going, decided, decided_at, met, alone, c
 use Rattle.lists.specs.Elements.{empty_list}
 use Rattle.lists.specs.Tests.{split, both, and-true}
 use Rattle.reading.proofs.Reading.{came_whole}
-use Rattle.log.proofs.Record.{kind_held}
+use Rattle.session_log.proofs.Record.{kind_held}
 use Rattle.reading.specs.Reading as reading
 use Rattle.reading.specs.Reading.{end_of, turn, place_after}
-use Rattle.log.specs.Record.{body_length, kind_of}
+use Rattle.session_log.specs.Record.{body_length, kind_of}
 use Rattle.reader.specs.Turn.{reading_of, turn_of}
 use Rattle.reader.specs.declared.Cursor.{Cursor}
 use Rattle.reader.specs.declared.Turn.{Turn}

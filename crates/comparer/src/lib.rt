@@ -6,7 +6,7 @@ ghost use Rattle.comparison.specs.Compare.{field_of, meant, same_bytes, kinds};
 ghost use Rattle.comparison.specs.Comparing.{met, alone, counted, is_wanted, fed_side, settled, fresh_comparing, side_of, fed, over, answer_of};
 ghost use Rattle.comparer.specs.Comparer.{Marks, side_in, took_in, progress_in, both_in, closed, comparing_of, fed_in, end_at, end_in, comparison_of};
 ghost use Rattle.reading.specs.Reading.{end_of};
-ghost use Rattle.log.specs.Record.{kind_of};
+ghost use Rattle.session_log.specs.Record.{kind_of};
 ghost use Rattle.reader.specs.Turn.{reading_of};
 
 use reader::Cursor;

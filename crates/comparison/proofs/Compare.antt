@@ -12,7 +12,7 @@ use borrow.Author.Tests.{eqb-true, eqb-false, eq-eqb, ne_eqb, lt-ltb, le-ltb, le
 use Rattle.lists.specs.Tests.{split, clash, both, eqb_refl, cond_same, and-false, or-true}
 use Rattle.comparison.specs.Compare.{cleared, field_of, meant, is_past, same_bytes, Sides, sides, swap, What, in_kind, in_body, in_end, Difference, Verdict, equal, differs, differs_at, first_from, compared, compare, swap_verdict, Swapped, EqualExactly, PastLength, Differs, First, FirstDifference, NamedAt, NamedWhereItEnds}
 use Rattle.reading.specs.Reading.{Ending, Reading, reading_at, end_of, read, log_of, place_after, place_of}
-use Rattle.log.specs.Record.{byte_at, kind_of}
+use Rattle.session_log.specs.Record.{byte_at, kind_of}
 use Rattle.reading.proofs.Reading.{reads_log}
 
 pub cond_under : {A B : Type 0} (f : A → B) (b : Bool) (x y : A) → cond b (f x) (f y) ≡ f (cond b x y)

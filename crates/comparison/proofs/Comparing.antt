@@ -19,7 +19,7 @@ use Rattle.lists.specs.Sums.{count}
 use Rattle.lists.specs.Tests.{bit, split, clash, both, neither, and-false, or-true}
 use Rattle.reading.specs.Reading as reading
 use Rattle.reading.specs.Reading.{Ending, Reading, reading_at, Read, still, joined, read, end_of, Turn, turn, place_after, log_of}
-use Rattle.log.specs.Record.{kind_of}
+use Rattle.session_log.specs.Record.{kind_of}
 use Rattle.reading.proofs.Reading.{cuts_apart, by_turns, join_assoc, read_ended, reads_log, turn_on, turn_one, turn_within, turn_some}
 
 -- the counts of some records and then others

@@ -5,7 +5,7 @@ use mathlib.Core.Path.{◌≡◌, refl}
 use lib.ListN.{replicate}
 use Rattle.comparison.specs.Compare.{field_of, meant, Sides, sides, in_kind, in_body, in_end, Verdict, equal, differs_at, compared, compare}
 use Rattle.reading.specs.Reading.{Ending, at_end, bad_at, cut_at}
-use Rattle.log.specs.Record.{body_length}
+use Rattle.session_log.specs.Record.{body_length}
 
 -- what two logs give, but for the counts
 abbrev Gives : List ℕ → List ℕ → Verdict → Sides Ending → Type 0

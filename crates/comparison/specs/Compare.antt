@@ -5,7 +5,7 @@
 use Rattle.std.specs.Prelude.{ℕ, zero, suc, ◌+◌, ◌<◌, Bool, true, false, cond, ◌&&◌, ◌||◌, not, List, [], ◌∷◌, ◌++◌, map, ◌↔◌, ◌≡◌, eqb, ltb, leb, length, get_or, take, drop}
 use Rattle.lists.specs.Sums.{count}
 use Rattle.reading.specs.Reading.{Ending, at_end, bad_at, cut_at, Log, log_of, place_after, place_of}
-use Rattle.log.specs.Record.{byte_at, kind_of}
+use Rattle.session_log.specs.Record.{byte_at, kind_of}
 
 -- of the first `size` bytes those past a length as 0; a length over the size leaves none past it
 abbrev pub cleared : ℕ → ℕ → List ℕ → List ℕ

@@ -5,7 +5,7 @@
 use Rattle.std.specs.Prelude.{ℕ, zero, suc, ◌+◌, Bool, true, false, cond, ◌&&◌, ◌||◌, not, List, [], ◌∷◌, ◌≡◌, eqb, length, take, drop}
 use Rattle.comparison.specs.Compare.{meant, same_bytes, Sides, sides, What, in_kind, in_body, in_end, Difference, Verdict, equal, differs, first_from, kinds, Comparison, compare}
 use Rattle.reading.specs.Reading.{Reading, reading_at, end_of, turn, place_after}
-use Rattle.log.specs.Record.{kind_of}
+use Rattle.session_log.specs.Record.{kind_of}
 
 -- how far the comparison has come: the number and the place of the next two records, or the first difference
 pub data Progress : Type 0 where

@@ -3,7 +3,7 @@
 use Rattle.std.specs.Prelude.{ℕ, List, [], ◌∷◌, ◌++◌}
 use Rattle.comparison.specs.Compare.{What, in_kind, in_body, in_end, Verdict, equal, differs, kinds, Comparison}
 use Rattle.reading.specs.Reading.{Ending, at_end, bad_at, cut_at}
-use Rattle.log.specs.Text.{decimal, blanked, bad_line, cut_line}
+use Rattle.session_log.specs.Text.{decimal, blanked, bad_line, cut_line}
 
 -- " kind", " body" or " end"
 abbrev pub what_word : What → List ℕ

@@ -13,7 +13,7 @@ use Rattle.comparison.specs.Compare.{kinds}
 use Rattle.comparison.specs.Text.{count_lines}
 use Rattle.comparison_text.proofs.Long.{line_most}
 use Rattle.lists.specs.Below.{below}
-use Rattle.log.specs.Text.{line_of}
+use Rattle.session_log.specs.Text.{line_of}
 use Rattle.text.proofs.Puts.{joined, put_none, spelt}
 use Rattle.text.specs.Line.{PutAt}
 

@@ -12,7 +12,7 @@ use Rattle.comparison.specs.Compare.{What, sides, differs_at, kinds}
 use Rattle.comparison.specs.Text.{what_word, verdict_line, end_line, left_word, right_word, count_lines, printed}
 use Rattle.comparison_text.proofs.Long.{value_most, two_digits, verdict_most, end_most}
 use Rattle.comparison_text.specs.Text.{text_in}
-use Rattle.log.specs.Text.{decimal, blanked, line_of}
+use Rattle.session_log.specs.Text.{decimal, blanked, line_of}
 use Rattle.text.proofs.Puts.{put_long, joined, spelt}
 use Rattle.text.specs.Line.{PutAt, RoomAt}
 

@@ -13,7 +13,7 @@ use Rattle.comparison.specs.Text.{what_word, verdict_line, end_line, left_word, 
 use Rattle.comparison_text.specs.Text.{NeverMore}
 use Rattle.lists.specs.Tests.{both}
 use Rattle.reading.specs.Reading.{Ending, at_end, bad_at, cut_at}
-use Rattle.log.specs.Text.{decimal, blanked, line_of}
+use Rattle.session_log.specs.Text.{decimal, blanked, line_of}
 use Rattle.text.proofs.Digits.{digits_le, decimal_most}
 
 -- a blank and a number; a number of two digits

@@ -6,7 +6,7 @@ ghost use Rattle.comparer.specs.Comparer.{what_in, verdict_in, end_in};
 ghost use Rattle.comparison.specs.Compare.{kinds};
 ghost use Rattle.comparison.specs.Text.{what_word, verdict_line, end_line, count_lines};
 ghost use Rattle.comparison_text.specs.Text.{text_in};
-ghost use Rattle.log.specs.Text.{line_of};
+ghost use Rattle.session_log.specs.Text.{line_of};
 ghost use Rattle.text.specs.Line.{PutAt};
 
 use comparer::{BAD, BODY, CUT, Comparison, EQUAL, End, KIND};

@@ -2,8 +2,8 @@
 -- Assumes nothing.
 use Rattle.std.proofs.Common.{◌≡◌, ℕ, zero, suc, ◌<◌, ◌≤◌, Bool, true, false, cond, ◌||◌, leb, ◌≢◌, sym, refl, ◌∙◌, le-ltb, lt-ltb, leb-false, leb-true}
 use Rattle.lists.specs.Tests.{split, neither}
-use Rattle.log.specs.Record.{is_kind, body_length}
-use Rattle.log.specs.Session.{place_after}
+use Rattle.session_log.specs.Record.{is_kind, body_length}
+use Rattle.session_log.specs.Session.{place_after}
 use Rattle.cursor.specs.Cursor.{at_most28, is_bad, next_cursor, call_number}
 use Rattle.cursor.specs.declared.Cursor.{Cursor}
 

@@ -1,8 +1,8 @@
 -- Where a log is read, after some bytes more of a record (`Session.next`, in numbers alone).
 -- Assumes nothing.
 use Rattle.std.specs.Prelude.{ℕ, min, Bool, true, false, cond, not, ◌&&◌, ◌==◌, nat_lt}
-use Rattle.log.specs.Record.{is_kind, body_length, record_max}
-use Rattle.log.specs.Session.{place_after}
+use Rattle.session_log.specs.Record.{is_kind, body_length, record_max}
+use Rattle.session_log.specs.Session.{place_after}
 use Rattle.cursor.specs.declared.Cursor.{Cursor}
 
 -- a count over 28 counts as 28

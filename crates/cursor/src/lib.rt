@@ -2,7 +2,7 @@
 #![tactic(auto)]
 
 ghost use Rattle.std.specs.Prelude.{◌≡◌, ◌≤◌, false};
-ghost use Rattle.log.specs.Record.{is_kind, body_length};
+ghost use Rattle.session_log.specs.Record.{is_kind, body_length};
 ghost use Rattle.cursor.specs.Cursor.{at_most28, is_bad, call_number, next_cursor};
 
 #[repr(C)]

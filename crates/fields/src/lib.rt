@@ -2,7 +2,7 @@
 #![tactic(auto)]
 
 ghost use Rattle.std.specs.Prelude.{◌+◌, ◌≤◌, ◌≡◌, [], ◌∷◌, length, take, drop};
-ghost use Rattle.log.specs.Record.{number_at, request_in, counts_in, settings_in};
+ghost use Rattle.session_log.specs.Record.{number_at, request_in, counts_in, settings_in};
 ghost use Rattle.request.specs.Request.{request_of};
 
 use entry::Counts;

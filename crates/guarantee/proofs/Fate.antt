@@ -4,7 +4,7 @@ use Prim.Native.Nat.{ℕ, ◌-◌, ◌≤◌, ◌<◌}
 use mathlib.Core.Bool.{Bool, true}
 use mathlib.Core.List.{List, [], ◌∷◌, ◌++◌}
 use mathlib.Core.Logic.{◌≢◌}
-use mathlib.Core.Path.{◌≡◌, ap, ap₂, ◌∙◌, sym}
+use mathlib.Core.Path.{◌≡◌, ap, ap₂, ◌∙◌, sym, subst}
 use native.Mathlib.Omega.{arith}
 use lib.Dec.{eqb, ltb}
 use borrow.Author.Tests.{ltb-true, ltb-false, eqb-true, eqb-false}
@@ -130,13 +130,13 @@ module _ (h : ℕ) (x : Request) (n : ℕ) (s : State) (r : Inv s) (b : Began h 
     no_result : (g : ℕ) → g < 8 → came_to (is_result n) g (own n (run (after s ds) (c ∷ es))) ≡ 0
     no_result g l =
         split (eqb g h)
-        (λ q. rw (eqb-true g h q) (closed_results h n b.home b.some (after s ds) c es (kept s ds r) k))
+        (λ q. subst (λ (y : ℕ). came_to (is_result n) y (own n (run (after s ds) (c ∷ es))) ≡ 0) (sym (eqb-true g h q)) (closed_results h n b.home b.some (after s ds) c es (kept s ds r) k))
         (λ q. omega (arith, own_results g n l b.some (after s ds) (c ∷ es) (kept s ds r), (still_others ds z g l (eqb-false g h q)).0))
 
     no_reply : (g : ℕ) → g < 8 → came_to (is_reply_entry n) g (own n (run (after s ds) (c ∷ es))) ≡ 0
     no_reply g l =
         split (eqb g h)
-        (λ q. rw (eqb-true g h q) (closed_replies h n b.home b.some (after s ds) c es (kept s ds r) k))
+        (λ q. subst (λ (y : ℕ). came_to (is_reply_entry n) y (own n (run (after s ds) (c ∷ es))) ≡ 0) (sym (eqb-true g h q)) (closed_replies h n b.home b.some (after s ds) c es (kept s ds r) k))
         (λ q. let o = still_others ds z g l (eqb-false g h q) in omega (arith, own_replies g n l b.some (after s ds) (c ∷ es) (kept s ds r), o.0, o.1, sending_less wanting g n (after s ds)))
 
   -- ---- a result with the OK bit at the call c, and time enough after it

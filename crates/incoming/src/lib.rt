@@ -92,7 +92,7 @@ fn later_steps(parts: Parts, further: bool, message: Message) -> ToDo
     let oldest = waits.first_match(message);
     let found = oldest.rule != RULE_NONE;
     let wait = waits.at(oldest.place);
-    let work = core::work_for(parts.settings, message);
+    let work = core_answers::work_for(parts.settings, message);
     let handles = parts.handles;
     let chosen = steps::choose(handles, work, found, wait.to_followers, message);
     ToDo {

@@ -48,7 +48,7 @@ pub fn sent(aborts: bool, answer: Message, message: Message) -> Message
     ensures { result ≡ (if aborts then message_of (abort_of message CEC-OP-ABORT-UNRECOGNIZED-OP) else answer) }
 {
     if aborts {
-        core::feature_abort(message, CEC_OP_ABORT_UNRECOGNIZED_OP)
+        core_answers::feature_abort(message, CEC_OP_ABORT_UNRECOGNIZED_OP)
     } else {
         answer
     }

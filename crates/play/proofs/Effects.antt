@@ -10,7 +10,7 @@ use Rattle.adapter.specs.declared.Adapter.{Adapter}
 use Rattle.adapter.specs.declared.Done.{Done}
 use Rattle.entry.specs.declared.Entry.{Entry}
 use Rattle.lists.specs.Tests.{split}
-use Rattle.log.specs.Text.{numbers_of}
+use Rattle.session_log.specs.Text.{numbers_of}
 use Rattle.parts.specs.Parts.{or_refused}
 use Rattle.play.specs.Play.{Effect, played_of, effect_of}
 use Rattle.play.specs.declared.Played.{Played}

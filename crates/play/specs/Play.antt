@@ -2,7 +2,7 @@
 -- Assumes nothing.
 use Rattle.std.specs.Prelude.{ℕ, List}
 use Rattle.adapter.specs.Adapter.{state_of}
-use Rattle.log.specs.Text.{numbers_of}
+use Rattle.session_log.specs.Text.{numbers_of}
 use Rattle.play.specs.declared.Played.{Played}
 use Rattle.rules.specs.Call.{Call, Outcome}
 use Rattle.rules.specs.State.{State}

@@ -3,7 +3,7 @@
 
 ghost use Rattle.std.specs.Prelude.{[], ◌∷◌, ◌≡◌};
 ghost use Rattle.adapter.specs.Adapter.{state_of};
-ghost use Rattle.log.specs.Record.{byte_at, number_at, open_of, mode_of, transmit_of, result_of, incoming_of, configure_of};
+ghost use Rattle.session_log.specs.Record.{byte_at, number_at, open_of, mode_of, transmit_of, result_of, incoming_of, configure_of};
 ghost use Rattle.play.specs.Play.{played_of, effect};
 ghost use Rattle.rules.specs.Call.{call_close, call_receive, call_bus_start, call_time, call_unconfigure};
 ghost use Rattle.text.specs.Line.{said_of};

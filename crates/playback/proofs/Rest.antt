@@ -8,8 +8,8 @@ use lib.ListN.{length, drop, drop_of_length-le}
 use lib.Seq.{take-length, drop-drop}
 use borrow.Author.Tests.{le-ltb}
 use Rattle.lists.specs.Tests.{split}
-use Rattle.log.proofs.Log.{cut_anywhere}
-use Rattle.log.specs.Session.{Session, fed, taken}
+use Rattle.session_log.proofs.Log.{cut_anywhere}
+use Rattle.session_log.specs.Session.{Session, fed, taken}
 
 -- one offer of all the bytes
 fed_taken : (s : Session) (bytes : List ℕ) (room : ℕ) → (fed (taken s bytes room).session (drop (taken s bytes room).taken bytes)).session ≡ (fed s bytes).session

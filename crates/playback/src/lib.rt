@@ -3,7 +3,7 @@
 
 ghost use Rattle.std.specs.Prelude.{◌≤◌, ◌≡◌, length};
 ghost use Rattle.io.specs.Counts.{IsPrefixLen};
-ghost use Rattle.log.specs.Session.{fed};
+ghost use Rattle.session_log.specs.Session.{fed};
 ghost use Rattle.player.specs.Player.{session_of};
 
 use libc::STDOUT_FILENO;

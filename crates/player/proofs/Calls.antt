@@ -11,12 +11,12 @@ use lib.ListN.{length, take, length-take}
 use borrow.Author.Tests.{ne_eqb, le-leb, lt-leb, ltb-true, ltb-false, leb-true}
 use Rattle.adapter.specs.Adapter.{state_of}
 use Rattle.lists.specs.Tests.{split, clash, both}
-use Rattle.log.proofs.Record.{call_by, call_held, kind_held}
-use Rattle.log.proofs.Whole.{body_most}
-use Rattle.log.specs.Gather.{turn}
-use Rattle.log.specs.Record.{is_kind, body_length, kind_of, call_of}
-use Rattle.log.specs.Session.{Printed, bad, grown, played, is_whole, place_after}
-use Rattle.log.specs.Text.{line_of, bad_line}
+use Rattle.session_log.proofs.Record.{call_by, call_held, kind_held}
+use Rattle.session_log.proofs.Whole.{body_most}
+use Rattle.session_log.specs.Gather.{turn}
+use Rattle.session_log.specs.Record.{is_kind, body_length, kind_of, call_of}
+use Rattle.session_log.specs.Session.{Printed, bad, grown, played, is_whole, place_after}
+use Rattle.session_log.specs.Text.{line_of, bad_line}
 use Rattle.cursor.specs.Cursor.{at_most28, is_bad, is_complete, next_cursor, call_number}
 use Rattle.play.specs.Play.{Effect, played_of, effect}
 use Rattle.player.specs.Player.{session_with, shown}

@@ -11,9 +11,9 @@ use lib.Seq.{drop-drop, length-take-le, take_all}
 use borrow.Author.Tests.{lt-ltb, le-ltb}
 use Rattle.lists.specs.Tests.{or-true, split}
 use Rattle.lists.specs.Vector.{put}
-use Rattle.log.proofs.Gather.{taken_turn}
-use Rattle.log.specs.Gather.{gather, gathered, turn}
-use Rattle.log.specs.Session.{Session, Printed, Taken, taken, is_whole}
+use Rattle.session_log.proofs.Gather.{taken_turn}
+use Rattle.session_log.specs.Gather.{gather, gathered, turn}
+use Rattle.session_log.specs.Session.{Session, Printed, Taken, taken, is_whole}
 use Rattle.player.specs.Player.{given_by}
 use Rattle.text.proofs.Puts.{put_long, split_at}
 use Rattle.text.specs.Line.{PutAt}

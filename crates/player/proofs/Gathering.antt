@@ -12,10 +12,10 @@ use borrow.Author.Tests.{lt-ltb, le-ltb, lt-leb, le-leb, ltb-true, ltb-false}
 use Rattle.lists.specs.Elements.{take_taken}
 use Rattle.lists.specs.Tests.{split}
 use Rattle.lists.specs.Vector.{put}
-use Rattle.log.proofs.Whole.{body_most}
-use Rattle.log.specs.Gather.{gather, gathered}
-use Rattle.log.specs.Record.{body_length, kind_of}
-use Rattle.log.specs.Session.{is_whole}
+use Rattle.session_log.proofs.Whole.{body_most}
+use Rattle.session_log.specs.Gather.{gather, gathered}
+use Rattle.session_log.specs.Record.{body_length, kind_of}
+use Rattle.session_log.specs.Session.{is_whole}
 use Rattle.cursor.specs.Cursor.{at_most28}
 
 pub take_28 : (n : ℕ) (l : List ℕ) → length l ≡ 28 → take (at_most28 n) l ≡ take n l

@@ -11,8 +11,8 @@ use borrow.Author.Tests.{lt-ltb, le-ltb, eqb-true, eqb-false, ne_eqb}
 use denote.Laws.{Is}
 use mir.Val.{Val}
 use Rattle.lists.specs.Tests.{split}
-use Rattle.log.specs.Session.{Session, finished}
-use Rattle.log.specs.Text.{cut_line}
+use Rattle.session_log.specs.Session.{Session, finished}
+use Rattle.session_log.specs.Text.{cut_line}
 use Rattle.player.specs.Player.{session_of, onto, room_errno, last_text}
 use Rattle.player.specs.declared.Player.{Player}
 use Rattle.player.specs.contracts.Player as the

@@ -7,9 +7,9 @@ use mathlib.Core.Path.{◌≡◌, sym, ap, ap₂, ◌∙◌}
 use native.Mathlib.Omega.{arith}
 use lib.ListN.{length, take, drop, length-drop}
 use Rattle.adapter.specs.Adapter.{state_of}
-use Rattle.log.specs.Gather.{gather, gathered, turn}
-use Rattle.log.specs.Record.{kind_of}
-use Rattle.log.specs.Session.{Session}
+use Rattle.session_log.specs.Gather.{gather, gathered, turn}
+use Rattle.session_log.specs.Record.{kind_of}
+use Rattle.session_log.specs.Session.{Session}
 use Rattle.cursor.specs.Cursor.{at_most28, next_cursor, call_number}
 use Rattle.player.specs.Player.{session_with, shown}
 use Rattle.cursor.specs.declared.Cursor.{Cursor}

@@ -3,8 +3,8 @@
 use Rattle.std.specs.Prelude.{ℕ, cond, List, [], ◌++◌, eqb, ltb, length, take, drop}
 use Rattle.adapter.specs.Adapter.{state_of}
 use Rattle.constants.specs.Kernel.{EINVAL}
-use Rattle.log.specs.Session.{Session, Taken, finished}
-use Rattle.log.specs.Text.{line_of, bad_line, line_max}
+use Rattle.session_log.specs.Session.{Session, Taken, finished}
+use Rattle.session_log.specs.Text.{line_of, bad_line, line_max}
 use Rattle.player.specs.declared.Fed.{Fed}
 use Rattle.player.specs.declared.Player.{Player}
 use Rattle.cursor.specs.declared.Cursor.{Cursor}

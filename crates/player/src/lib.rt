@@ -2,9 +2,9 @@
 #![tactic(auto)]
 
 ghost use Rattle.std.specs.Prelude.{suc, ◌+◌, ◌-◌, ◌≤◌, ◌<◌, ◌≢◌, ◌≡◌, length, take};
-ghost use Rattle.log.specs.Gather.{gather, gathered};
-ghost use Rattle.log.specs.Record.{body_length};
-ghost use Rattle.log.specs.Session.{fresh_session, taken};
+ghost use Rattle.session_log.specs.Gather.{gather, gathered};
+ghost use Rattle.session_log.specs.Record.{body_length};
+ghost use Rattle.session_log.specs.Session.{fresh_session, taken};
 ghost use Rattle.cursor.specs.Cursor.{at_most28};
 ghost use Rattle.player.specs.Player.{session_of, shown, onto, room_errno, given_of, given_by, last_text};
 ghost use Rattle.text.specs.Line.{PutAt, said_of};

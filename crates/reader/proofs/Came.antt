@@ -4,11 +4,11 @@ use Rattle.std.proofs.Common.{◌≡◌, ℕ, ◌+◌, ◌<◌, ◌≤◌, false
 use Rattle.lists.specs.Tests.{split}
 use Rattle.reading.proofs.Gather.{grown_whole, grown_part, turn_ended, turn_gathers}
 use Rattle.reading.proofs.Reading.{came_whole, turn_within, turn_some}
-use Rattle.log.proofs.Record.{kind_held}
+use Rattle.session_log.proofs.Record.{kind_held}
 use Rattle.reading.specs.Gather.{gather, turned}
 use Rattle.reading.specs.Reading as reading
 use Rattle.reading.specs.Reading.{Reading, Read, unknown, is_whole, turn}
-use Rattle.log.specs.Record.{is_kind, body_length, kind_of}
+use Rattle.session_log.specs.Record.{is_kind, body_length, kind_of}
 use Rattle.reader.proofs.Turns.{TurnIs}
 use Rattle.reader.specs.Turn.{reading_of, call_in}
 use Rattle.reader.specs.declared.Cursor.{Cursor}

@@ -2,7 +2,7 @@
 -- Assumes nothing.
 use Rattle.std.proofs.Common.{◌≡◌, ℕ, zero, suc, ◌<◌, ◌≤◌, Bool, true, false, cond, ◌||◌, leb, ◌≢◌, sym, refl, ◌∙◌, le-ltb, lt-ltb, leb-false, leb-true}
 use Rattle.lists.specs.Tests.{split, neither}
-use Rattle.log.specs.Record.{is_kind, body_length}
+use Rattle.session_log.specs.Record.{is_kind, body_length}
 use Rattle.reading.specs.Reading.{place_after}
 use Rattle.reader.specs.Cursor.{at_most28, is_bad, next_cursor, call_number}
 use Rattle.reader.specs.declared.Cursor.{Cursor}

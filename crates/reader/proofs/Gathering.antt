@@ -9,7 +9,7 @@ use Rattle.lists.specs.Tests.{split}
 use Rattle.lists.specs.Vector.{put}
 use Rattle.reading.proofs.Whole.{body_most}
 use Rattle.reading.specs.Gather.{gather, gathered}
-use Rattle.log.specs.Record.{body_length, kind_of}
+use Rattle.session_log.specs.Record.{body_length, kind_of}
 use Rattle.reading.specs.Reading.{is_whole}
 use Rattle.reader.specs.Cursor.{at_most28}
 

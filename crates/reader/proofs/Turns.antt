@@ -6,11 +6,11 @@ use Rattle.lists.specs.Elements.{empty_list}
 use Rattle.lists.specs.Tests.{split, both}
 use Rattle.reading.proofs.Gather.{holding, grown_whole, grown_part, turn_ended, turn_gathers}
 use Rattle.reading.proofs.Reading.{turn_some}
-use Rattle.log.proofs.Record.{kind_held}
+use Rattle.session_log.proofs.Record.{kind_held}
 use Rattle.reading.proofs.Whole.{body_most}
 use Rattle.reading.specs.Gather.{gather, gathered, turned}
 use Rattle.reading.specs.Reading.{Read, reading_at, still, unknown, is_whole, place_after, turn}
-use Rattle.log.specs.Record.{is_kind, body_length, kind_of}
+use Rattle.session_log.specs.Record.{is_kind, body_length, kind_of}
 use Rattle.reader.proofs.Gathering.{take_28}
 use Rattle.reader.specs.Cursor.{at_most28, is_bad, is_complete, next_cursor, call_number}
 use Rattle.reader.specs.Turn.{reading_of, turn_of, call_in}

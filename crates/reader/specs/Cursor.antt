@@ -1,7 +1,7 @@
 -- Where a log is read, after some bytes more of a record (`Reading.next`, in numbers alone).
 -- Assumes nothing.
 use Rattle.std.specs.Prelude.{ℕ, min, Bool, true, false, cond, not, ◌&&◌, ◌==◌, nat_lt}
-use Rattle.log.specs.Record.{is_kind, body_length, record_max}
+use Rattle.session_log.specs.Record.{is_kind, body_length, record_max}
 use Rattle.reading.specs.Reading.{place_after}
 use Rattle.reader.specs.declared.Cursor.{Cursor}
 

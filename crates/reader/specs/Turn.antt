@@ -3,7 +3,7 @@
 use Rattle.std.specs.Prelude.{ℕ, cond, List, [], ◌∷◌, take, ◌==◌}
 use Rattle.reading.specs.Reading as reading
 use Rattle.reading.specs.Reading.{Reading}
-use Rattle.log.specs.Record.{is_kind, kind_of}
+use Rattle.session_log.specs.Record.{is_kind, kind_of}
 use Rattle.reader.specs.declared.Cursor.{Cursor}
 use Rattle.reader.specs.declared.Turn.{Turn}
 

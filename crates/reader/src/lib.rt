@@ -4,7 +4,7 @@
 ghost use Rattle.std.specs.Prelude.{◌≡◌, suc, ◌+◌, ◌-◌, ◌<◌, ◌≤◌, false, length, take};
 ghost use Rattle.reading.specs.Gather.{gather, gathered};
 ghost use Rattle.reading.specs.Reading.{turn};
-ghost use Rattle.log.specs.Record.{is_kind, body_length};
+ghost use Rattle.session_log.specs.Record.{is_kind, body_length};
 ghost use Rattle.reader.specs.Cursor.{at_most28, is_bad, call_number, next_cursor};
 ghost use Rattle.reader.specs.Turn.{reading_of, turn_of, call_in};
 

@@ -13,7 +13,7 @@ use Rattle.lists.specs.Tests.{split, both}
 use Rattle.lists.specs.Vector.{put}
 use Rattle.reading.specs.Gather.{gather, gathered, turned}
 use Rattle.reading.specs.Reading.{Reading, reading_at, Read, still, unknown, is_whole, grown, next, Turn, is_part, turn, place_after}
-use Rattle.log.specs.Record.{is_kind, kind_of, body_length, body_lengths}
+use Rattle.session_log.specs.Record.{is_kind, kind_of, body_length, body_lengths}
 
 -- a reading in which a record has begun
 abbrev pub holding : Reading → List ℕ → Reading

@@ -11,7 +11,7 @@ use Rattle.lists.specs.Below.{below}
 use Rattle.lists.specs.Tests.{split}
 use Rattle.lists.specs.Vector.{put}
 use Rattle.reading.specs.Gather.{gather, gathered}
-use Rattle.log.specs.Record.{body_length, body_lengths, kind_of}
+use Rattle.session_log.specs.Record.{body_length, body_lengths, kind_of}
 use Rattle.reading.specs.Reading.{is_whole}
 use Rattle.reading.proofs.Gather.{put_kind, gather_whole, gather_part, length-put}
 

@@ -3,7 +3,7 @@
 use Rattle.std.specs.Prelude.{ℕ, suc, cond, ◌&&◌, not, List, [], ◌∷◌, eqb, length}
 use Rattle.lists.specs.Vector.{put}
 use Rattle.reading.specs.Reading.{Reading, Read, unknown, grown, is_whole}
-use Rattle.log.specs.Record.{is_kind, record_max, kind_of}
+use Rattle.session_log.specs.Record.{is_kind, record_max, kind_of}
 
 -- a record that has begun, with bytes until it is whole
 abbrev pub gather : List ℕ → List ℕ → List ℕ

@@ -3,7 +3,7 @@
 -- Assumes nothing.
 use Rattle.std.specs.Prelude.{ℕ, zero, suc, ◌+◌, ◌%◌, Bool, true, false, cond, ◌&&◌, not, List, [], ◌∷◌, ◌++◌, ◌≡◌, eqb, ltb, leb, length, take, drop}
 use Rattle.lists.specs.Vector.{put}
-use Rattle.log.specs.Record.{is_kind, body_length, record_max, kind_of}
+use Rattle.session_log.specs.Record.{is_kind, body_length, record_max, kind_of}
 
 -- "Offsets and places over portions are 64 bits and wrap."
 abbrev pub place_after : ℕ → ℕ → ℕ

@@ -7,7 +7,7 @@ ghost use Rattle.rules.specs.Core.{is_directed, is_registered};
 ghost use Rattle.steps.specs.Steps.{chosen_of};
 
 use constants::{CEC_LOG_ADDR_BROADCAST, CEC_LOG_ADDR_UNREGISTERED, CEC_MSG_FEATURE_ABORT};
-use core::Work;
+use core_answers::Work;
 use handles::Handles;
 use message::Message;
 

@@ -8,7 +8,7 @@ use lib.Dec.{ltb}
 use lib.ListN.{length, length-append}
 use borrow.Author.Tests.{lt-ltb, le-ltb}
 use Rattle.lists.specs.Tests.{split}
-use Rattle.log.specs.Text.{digits, decimal}
+use Rattle.session_log.specs.Text.{digits, decimal}
 
 -- a number below 10 ^ (j + 1) has at most j + 1 digits
 pub digits_le : (k j n : ℕ) → n < 10 ^ suc j → length (digits k n) ≤ suc j

@@ -7,7 +7,7 @@ use native.Mathlib.Numerals.{add-one}
 use native.Mathlib.Omega.{arith}
 use lib.ListN.{length, take, drop, set, get_or, length-append, length-take, length-drop, take-append-drop}
 use lib.Seq.{set_split, take-suc, take_at, drop_at, drop-drop}
-use Rattle.log.specs.Text.{decimal, blanked, line_of}
+use Rattle.session_log.specs.Text.{decimal, blanked, line_of}
 use Rattle.text.proofs.Digits.{decimal_one}
 use Rattle.text.specs.Line.{PutAt, LineAt, RoomAt}
 

@@ -1,7 +1,7 @@
 -- What an answer says, and a line's text in a lent buffer.
 -- Assumes nothing.
 use Rattle.std.specs.Prelude.{ℕ, ◌+◌, ◌≤◌, ◌<◌, cond, List, [], ◌∷◌, ◌++◌, ◌≡◌, length, take, drop}
-use Rattle.log.specs.Text.{line_max}
+use Rattle.session_log.specs.Text.{line_max}
 use Rattle.text.specs.declared.Said.{Said}
 
 -- the numbers that an answer adds to the kind, as in `Text.numbers_of`

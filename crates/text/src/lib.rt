@@ -2,7 +2,7 @@
 #![tactic(auto)]
 
 ghost use Rattle.std.specs.Prelude.{◌+◌, ◌≤◌, ◌<◌, true, false, [], ◌∷◌, ◌++◌, ◌≡◌, length};
-ghost use Rattle.log.specs.Text.{decimal, blanked, line_of, bad_line, cut_line};
+ghost use Rattle.session_log.specs.Text.{decimal, blanked, line_of, bad_line, cut_line};
 ghost use Rattle.text.specs.Line.{said_of, PutAt, RoomAt, LineAt};
 
 use entry::Entry;

@@ -3,7 +3,7 @@ use native.Mathlib.Omega.{arith}
 use borrow.Author.Rules.{rules}
 use borrow.Author.Tests.{eq-eqb, ne_eqb}
 use Rattle.comparison_text.proofs.Lines.{called}
-use Rattle.log.specs.Text.{bad_line, cut_line}
+use Rattle.session_log.specs.Text.{bad_line, cut_line}
 use Rattle.text.proofs.Puts.{put_none}
 use Rattle.comparison_text.proofs.end_line.Statement.{statement}
 use Rattle.comparison_text.proofs.end_line.Tie as tie

@@ -1,6 +1,6 @@
 -- `cursor::body_length` meets its contract. Assumes nothing.
 use Rattle.std.proofs.Common.{sym, ap, arith}
-use Rattle.log.specs.Record.{body_length}
+use Rattle.session_log.specs.Record.{body_length}
 use Rattle.cursor.proofs.Cursors.{no_body}
 use Rattle.cursor.proofs.body_length.Statement.{statement}
 use Rattle.cursor.proofs.body_length.Tie as tie

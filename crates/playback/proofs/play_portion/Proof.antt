@@ -5,7 +5,7 @@ use mathlib.Core.Path.{◌≡◌, refl, sym, ap, ◌∙◌}
 use native.Mathlib.Omega.{arith}
 use lib.ListN.{length, drop, length-drop}
 use borrow.Author.Rules.{rules}
-use Rattle.log.specs.Session.{fed, taken}
+use Rattle.session_log.specs.Session.{fed, taken}
 use Rattle.player.specs.Player.{Given, session_of}
 use Rattle.playback.proofs.Rest.{fed_on_lem, fed_none, fed_end}
 use Rattle.player.proofs.Feeding.{all_left}

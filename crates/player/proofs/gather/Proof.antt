@@ -7,7 +7,7 @@ use native.Mathlib.Numerals.{add-one}
 use lib.ListN.{take, length-take}
 use lib.Seq.{paste, paste-zero, paste-suc, length-paste, take_all}
 use Rattle.cursor.specs.Cursor.{at_most28}
-use Rattle.log.specs.Record.{kind_of}
+use Rattle.session_log.specs.Record.{kind_of}
 use Rattle.player.proofs.Gathering.{take_28, gather_full, kind_new, kind_old, copied}
 use native.Mathlib.Omega.{arith}
 use borrow.Author.Rules.{rules}

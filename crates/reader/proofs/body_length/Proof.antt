@@ -1,6 +1,6 @@
 -- `reader::body_length` meets its contract. Assumes nothing.
 use Rattle.std.proofs.Common.{sym, ap, arith}
-use Rattle.log.specs.Record.{body_length}
+use Rattle.session_log.specs.Record.{body_length}
 use Rattle.reader.proofs.Cursors.{no_body}
 use Rattle.reader.proofs.body_length.Statement.{statement}
 use Rattle.reader.proofs.body_length.Tie as tie

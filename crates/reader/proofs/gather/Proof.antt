@@ -2,7 +2,7 @@
 use Rattle.std.proofs.Common.{◌≡◌, ◌+◌, ◌-◌, ◌≤◌, ◌++◌, take, sym, ◌∙◌, ⊎_elim, add-one, arith, length-take, take_all, rules}
 use lib.Seq.{paste, paste-zero, paste-suc, length-paste}
 use Rattle.reader.specs.Cursor.{at_most28}
-use Rattle.log.specs.Record.{kind_of}
+use Rattle.session_log.specs.Record.{kind_of}
 use Rattle.reader.proofs.Gathering.{take_28, gather_full, kind_new, kind_old, copied}
 use Rattle.reader.proofs.gather.Statement.{statement}
 use Rattle.reader.proofs.gather.Tie as tie

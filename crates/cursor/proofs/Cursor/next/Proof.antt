@@ -1,6 +1,6 @@
 -- `cursor::Cursor::next` meets its contract. Assumes nothing.
 use Rattle.std.proofs.Common.{refl, arith, rules}
-use Rattle.log.specs.Record.{body_length}
+use Rattle.session_log.specs.Record.{body_length}
 use Rattle.cursor.proofs.Cursors.{next_bad, next_full, next_held}
 use Rattle.cursor.proofs.Cursor.next.Statement.{statement}
 use Rattle.cursor.proofs.Cursor.next.Tie as tie

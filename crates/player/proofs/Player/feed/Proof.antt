@@ -4,9 +4,9 @@ use mathlib.Core.Path.{refl, sym, ap, ◌∙◌}
 use borrow.Author.Tests.{leb-true, leb-false, not-true, not-false}
 use mathlib.Core.Bool.{false}
 use Rattle.adapter.specs.declared.Adapter.{Adapter}
-use Rattle.log.specs.Gather.{gather, gathered}
+use Rattle.session_log.specs.Gather.{gather, gathered}
 use Rattle.cursor.specs.Cursor.{at_most28}
-use Rattle.log.specs.Session.{Taken, taken}
+use Rattle.session_log.specs.Session.{Taken, taken}
 use Rattle.player.specs.Player.{session_of, given_by}
 use Rattle.player.proofs.Calls.{Follows, follows, follows_none, no_call}
 use Rattle.player.proofs.Feeding.{all_left, gathered_some, start, ends, idle, idle_short, idle_ended, idle_done}

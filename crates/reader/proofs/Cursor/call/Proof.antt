@@ -1,7 +1,7 @@
 -- `reader::Cursor::call` meets its contract. Assumes nothing.
 use Rattle.std.proofs.Common.{◌≡◌, true, false, leb, sym, ◌∙◌, arith, rules, leb-true}
 use Rattle.lists.specs.Tests.{both}
-use Rattle.log.specs.Record.{is_kind}
+use Rattle.session_log.specs.Record.{is_kind}
 use Rattle.reader.proofs.Cursors.{called, not_called}
 use Rattle.reader.proofs.Cursor.call.Statement.{statement}
 use Rattle.reader.proofs.Cursor.call.Tie as tie

@@ -1,6 +1,6 @@
 -- `reader::Cursor::next` meets its contract. Assumes nothing.
 use Rattle.std.proofs.Common.{refl, arith, rules}
-use Rattle.log.specs.Record.{body_length}
+use Rattle.session_log.specs.Record.{body_length}
 use Rattle.reader.proofs.Cursors.{next_bad, next_full, next_held}
 use Rattle.reader.proofs.Cursor.next.Statement.{statement}
 use Rattle.reader.proofs.Cursor.next.Tie as tie
