@@ -1,7 +1,6 @@
 // The kernel's names for the numbers: errno.h and linux/cec.h. specs/ has the same names for the definitions, with '-' for '_'.
 #![tactic(auto)]
 
-
 // Errors: what a refused call gives back (document 01, "Numbers given back"; errno.h).
 pub const EPERM: u32 = 1;
 

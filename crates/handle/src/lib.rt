@@ -1,7 +1,6 @@
 // A handle, through which one program uses the adapter, and its row in the listing.
 #![tactic(auto)]
 
-
 // What the adapter keeps of a handle besides its inbox.
 #[repr(C)]
 #[derive(Clone, Copy)]

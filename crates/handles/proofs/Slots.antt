@@ -1,4 +1,4 @@
--- The slots of the handles: that there are 8 is part of what owning the value tells.
+-- The slots of the handles: one more is looked at for a role.
 -- Assumes nothing.
 use Prim.Native.Nat.{ℕ, ◌+◌, ◌<◌}
 use mathlib.Core.Bool.{Bool, ◌&&◌, ◌||◌, not}
@@ -6,19 +6,11 @@ use mathlib.Core.List.{List}
 use mathlib.Core.Path.{◌≡◌, sym}
 use lib.Dec.{eqb}
 use lib.ListN.{length, get_or, take}
-use mir.Val.{Val}
-use denote.Laws.{Is}
-use Rattle.lists.specs.Elements.{unmapped}
 use Rattle.lists.specs.Places.{without, any_others}
 use Rattle.lists.specs.Sums.{any}
 use Rattle.handle.specs.declared.Handle.{Handle}
-use Rattle.handles.specs.declared.Handles.{Handles}
 use Rattle.rules.specs.Handles.{in_role}
 use Rattle.rules.specs.State.{closed_handle}
-use Rattle.handles.specs.contracts.Handles as the
-
-pub handles_long : (x : Handles) (vs : List Val) → Is the.the_row x vs → length x.slots ≡ 8
-handles_long x vs p = unmapped _ x.slots 8 p.1.1.0.1.0.1
 
 -- a loop over all handles but one: one more is looked at for a role
 pub role_next : (p : ℕ → Bool) (l : List Handle) (h i : ℕ) (v r : Bool) → i < length l → v ≡ any (in_role p) (without h (take i l)) → r ≡ p (get_or l i closed_handle).mode

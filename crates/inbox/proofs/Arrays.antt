@@ -7,24 +7,15 @@ use mathlib.Core.Path.{◌≡◌, sym, ◌∙◌}
 use native.Mathlib.Omega.{arith}
 use lib.Dec.{ltb}
 use lib.ListN.{length, length-set, get_or, set, get_or-eq_default}
-use denote.Laws.{Is}
-use mir.Val.{Val}
 use borrow.Author.Tests.{ltb-true, ltb-false}
 use Rattle.entry.specs.declared.Entry.{Entry}
-use Rattle.inbox.specs.contracts.Inboxes as the
 use Rattle.inbox.specs.Inboxes.{inbox_of, delivered, delivered_past, delivered_full, delivered_room}
-use Rattle.inbox.specs.declared.Inboxes.{Inboxes}
 use Rattle.lists.specs.Blocks.{parts, length_part, length_parts, parts_put}
-use Rattle.lists.specs.Elements.{unmapped}
 use Rattle.lists.specs.Tests.{both, split}
 
 pub record Long (es : List Entry) (cs : List ℕ) : Type 0 where
   pub entries : length es ≡ 128
   pub counts : length cs ≡ 8
-
--- owning the inboxes tells so
-pub inboxes_long : (b : Inboxes) (vs : List Val) → Is the.the_row b vs → Long b.entries b.counts
-inboxes_long b vs p = record { entries = unmapped _ b.entries 128 p.1.1.0.1.0.1; counts = unmapped _ b.counts 8 p.1.1.1.0.1.0.1 }
 
 pub store_long : (es : List Entry) (cs : List ℕ) (i h n : ℕ) (e : Entry) → Long es cs → Long (set es i e) (set cs h n)
 store_long es cs i h n e long = record { entries = length-set es i e ∙ long.entries; counts = length-set cs h n ∙ long.counts }

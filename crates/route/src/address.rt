@@ -19,6 +19,7 @@ pub fn is_well_formed(address: u16) -> bool
 }
 
 // The place of the last non-zero digit, 0 for 0.0.0.0.
+#[tactic(auto, unfolding(crate::specs::Address::depth))]
 pub fn depth(address: u16) -> u8
     ensures { result ≡ depth address }
 {
@@ -35,6 +36,7 @@ pub fn depth(address: u16) -> u8
 }
 
 // The address with its last non-zero digit cleared.
+#[tactic(auto, unfolding(crate::specs::Address::parent))]
 pub fn parent(address: u16) -> u16
     ensures { result ≡ parent address }
 {
@@ -51,6 +53,7 @@ pub fn parent(address: u16) -> u16
 }
 
 // The weight of the digit after a depth: 4096 for the first digit, 1 for the fourth.
+#[tactic(auto, unfolding(crate::specs::Address::weight_at))]
 fn weight_at(depth: u8) -> u16
     ensures value { result ≡ weight_at depth }
     ensures lower_bound { 1 ≤ result }

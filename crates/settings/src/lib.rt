@@ -1,7 +1,6 @@
 // What configure sets: the addresses of the box and what it tells of itself. The last three are for CEC 2.0.
 #![tactic(auto)]
 
-
 #[repr(C)]
 #[derive(Clone, Copy)]
 pub struct Settings {
