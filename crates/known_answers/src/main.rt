@@ -11,6 +11,7 @@ use message::Message;
 use queue::Queue;
 use request::Request;
 use settings::Settings;
+use std::io;
 use waits::Waits;
 use wire::Wire;
 
@@ -21,14 +22,8 @@ const JUST_BEFORE: u64 = 4999999999;
 
 const CAME_AT: u64 = 7000000000;
 
-fn say(text: &[u8], number: u32) {
-    io::write_all(1, text);
-    io::print_decimal(1, number as u64);
-}
-
-fn line(text: &[u8], number: u32) {
-    say(text, number);
-    io::write_all(1, b"\n");
+fn line(rt: &impl Print, text: &str, number: u32) -> io::Result<()> {
+    println!(rt; "{text}{number}")
 }
 
 // Address 0x1000, a mask, version 5.
@@ -248,38 +243,22 @@ fn active(header: u8, length: u8, opcode: u8, first: u8, second: u8) -> u16 {
     told(shown, header, length, opcode, first, second).active_address()
 }
 
-fn say_address(text: &[u8], address: u16) {
-    io::write_all(1, text);
-    io::print_hex(1, address as u64, 4);
+fn say_active(rt: &impl Print, text: &str, address: u16) -> io::Result<()> {
+    println!(rt; "{text}{address:04x}")
 }
 
-fn say_active(text: &[u8], address: u16) {
-    say_address(text, address);
-    io::write_all(1, b"\n");
-}
-
-fn say_way(first: u16, second: u16) {
+fn say_way(rt: &impl Print, first: u16, second: u16) -> io::Result<()> {
     let way = route::between(first, second);
-    say_address(b"way from ", first);
-    say_address(b" to ", second);
-    say(b": errno ", way.errno);
-    say_address(b", ancestor ", way.ancestor);
-    say(b", on the path ", way.on_path as u32);
-    line(b", port ", way.port as u32);
-}
-
-fn say_byte(byte: u8) {
-    io::write_all(1, b" ");
-    io::print_hex(1, byte as u64, 2);
+    println!(rt;
+        "way from {first:04x} to {second:04x}: errno {}, ancestor {:04x}, on the path {}, port {}",
+        way.errno, way.ancestor, way.on_path as u32, way.port
+    )
 }
 
 // What ended the wait, with the opcode that the entry shows (W-207).
-fn say_reply(text: &[u8], adapter: Adapter) {
+fn say_reply(rt: &impl Print, text: &str, adapter: Adapter) -> io::Result<()> {
     let entry = adapter.receive(0).entry;
-    say(text, entry.rx_status as u32);
-    io::write_all(1, b", reply");
-    say_byte(entry.reply);
-    io::write_all(1, b"\n");
+    println!(rt; "{text}{}, reply {:02x}", entry.rx_status, entry.reply)
 }
 
 // 40 C0 wants C1, and some bytes came.
@@ -296,17 +275,12 @@ fn arc_rule(length: u8, second: u8, third: u8) -> u32 {
 }
 
 // What handle 0 received, with its times (W-208).
-fn say_times(text: &[u8], adapter: Adapter) {
+fn say_times(rt: &impl Print, text: &str, adapter: Adapter) -> io::Result<()> {
     let entry = adapter.receive(0).entry;
-    io::write_all(1, text);
-    say(b": number ", entry.sequence);
-    say(b", tx_status ", entry.tx_status as u32);
-    say(b", rx_status ", entry.rx_status as u32);
-    io::write_all(1, b", tx_ts ");
-    io::print_decimal(1, entry.tx_ts);
-    io::write_all(1, b", rx_ts ");
-    io::print_decimal(1, entry.rx_ts);
-    io::write_all(1, b"\n");
+    println!(rt;
+        "{text}: number {}, tx_status {}, rx_status {}, tx_ts {}, rx_ts {}",
+        entry.sequence, entry.tx_status, entry.rx_status, entry.tx_ts, entry.rx_ts
+    )
 }
 
 // The message on the wire has gone out.
@@ -320,150 +294,205 @@ fn all_told(adapter: Adapter, ts: u64) -> Done {
 }
 
 // A result before the last time, and one at it.
-fn say_results(text: &[u8], adapter: Adapter) {
-    say(text, ended(adapter, JUST_BEFORE).errno);
-    line(b", at its time: errno ", ended(adapter, SENT_AT).errno);
+fn say_results(rt: &impl Print, text: &str, adapter: Adapter) -> io::Result<()> {
+    println!(rt;
+        "{text}{}, at its time: errno {}",
+        ended(adapter, JUST_BEFORE).errno,
+        ended(adapter, SENT_AT).errno
+    )
 }
 
 // The same of a message.
-fn say_messages(text: &[u8], adapter: Adapter) {
-    say(text, all_told(adapter, JUST_BEFORE).errno);
-    line(b", at its time: errno ", all_told(adapter, SENT_AT).errno);
+fn say_messages(rt: &impl Print, text: &str, adapter: Adapter) -> io::Result<()> {
+    println!(rt;
+        "{text}{}, at its time: errno {}",
+        all_told(adapter, JUST_BEFORE).errno,
+        all_told(adapter, SENT_AT).errno
+    )
 }
 
-fn say_six(bytes: [u8; 16]) {
-    say_byte(bytes[0]);
-    say_byte(bytes[1]);
-    say_byte(bytes[2]);
-    say_byte(bytes[3]);
-    say_byte(bytes[4]);
-    say_byte(bytes[5]);
-    io::write_all(1, b"\n");
+fn say_six(rt: &impl Print, text: &str, bytes: [u8; 16]) -> io::Result<()> {
+    println!(rt;
+        "{text} {:02x} {:02x} {:02x} {:02x} {:02x} {:02x}",
+        bytes[0], bytes[1], bytes[2], bytes[3], bytes[4], bytes[5]
+    )
 }
 
-fn say_modes() {
-    line(b"mode 0x31: errno ", mode(true, 0x31));
-    line(b"mode 0x30: errno ", mode(true, 0x30));
-    line(b"mode 0xE1, no privilege: errno ", mode(false, 0xE1));
-    line(b"mode 0xE0, no privilege: errno ", mode(false, 0xE0));
+fn say_modes(rt: &impl Print) -> io::Result<()> {
+    line(rt, "mode 0x31: errno ", mode(true, 0x31))?;
+    line(rt, "mode 0x30: errno ", mode(true, 0x30))?;
+    line(rt, "mode 0xE1, no privilege: errno ", mode(false, 0xE1))?;
+    line(rt, "mode 0xE0, no privilege: errno ", mode(false, 0xE0))
 }
 
-fn say_replies() {
+fn say_poll(rt: &impl Print) -> io::Result<()> {
+    let given = poll();
+    println!(rt;
+        "poll 44: errno {}, tx_status {}",
+        given.errno, given.status
+    )
+}
+
+fn say_replies(rt: &impl Print) -> io::Result<()> {
     line(
-        b"sent 40 8F wants 90, came 04 90 00: rx_status ",
+        rt,
+        "sent 40 8F wants 90, came 04 90 00: rx_status ",
         asked(3, 0x04, 0x90, 0x00).status,
-    );
+    )?;
     line(
-        b"same, came 04 00 8F 00: rx_status ",
+        rt,
+        "same, came 04 00 8F 00: rx_status ",
         asked(4, 0x04, 0x00, 0x8F).status,
-    );
+    )?;
     line(
-        b"same, came 04 00: receive, errno ",
+        rt,
+        "same, came 04 00: receive, errno ",
         asked(2, 0x04, 0x00, 0x00).errno,
-    );
+    )?;
     line(
-        b"same, came 54 90 00: receive, errno ",
+        rt,
+        "same, came 54 90 00: receive, errno ",
         asked(3, 0x54, 0x90, 0x00).errno,
-    );
+    )
 }
 
-fn say_rules() {
+fn say_rules(rt: &impl Print) -> io::Result<()> {
     line(
-        b"sent 40 C0 wants C1, came 04 C1: rule ",
+        rt,
+        "sent 40 C0 wants C1, came 04 C1: rule ",
         arc_rule(2, 0xC1, 0),
-    );
-    line(b"same, came 04 C2: rule ", arc_rule(2, 0xC2, 0));
-    line(b"same, came 04 00 C0: rule ", arc_rule(3, 0x00, 0xC0));
-    line(b"same, came 04 00: rule ", arc_rule(2, 0x00, 0xC0));
-    say_reply(b"same, came 04 C1: rx_status ", arc_asked(2, 0xC1, 0));
-    say_reply(b"same, came 04 C2: rx_status ", arc_asked(2, 0xC2, 0));
-    say_reply(b"same, came 04 00 C0: rx_status ", arc_asked(3, 0x00, 0xC0));
+    )?;
+    line(rt, "same, came 04 C2: rule ", arc_rule(2, 0xC2, 0))?;
+    line(rt, "same, came 04 00 C0: rule ", arc_rule(3, 0x00, 0xC0))?;
+    line(rt, "same, came 04 00: rule ", arc_rule(2, 0x00, 0xC0))?;
+    say_reply(rt, "same, came 04 C1: rx_status ", arc_asked(2, 0xC1, 0))?;
+    say_reply(rt, "same, came 04 C2: rx_status ", arc_asked(2, 0xC2, 0))?;
     say_reply(
-        b"same, after 1000 ms: rx_status ",
+        rt,
+        "same, came 04 00 C0: rx_status ",
+        arc_asked(3, 0x00, 0xC0),
+    )?;
+    say_reply(
+        rt,
+        "same, after 1000 ms: rx_status ",
         waiting(0xC0, 0xC1).time_passed(1000).adapter,
-    );
+    )?;
     say_reply(
-        b"same, unconfigured: rx_status ",
+        rt,
+        "same, unconfigured: rx_status ",
         waiting(0xC0, 0xC1).unconfigure().adapter,
-    );
+    )
 }
 
-fn say_lengths() {
-    line(b"message of 16 bytes: errno ", sent(16));
-    line(b"message of 17 bytes: errno ", sent(17));
-    line(b"message of 16 bytes from the wire: errno ", came(16));
-    line(b"message of 17 bytes from the wire: errno ", came(17));
+fn say_lengths(rt: &impl Print) -> io::Result<()> {
+    line(rt, "message of 16 bytes: errno ", sent(16))?;
+    line(rt, "message of 17 bytes: errno ", sent(17))?;
+    line(rt, "message of 16 bytes from the wire: errno ", came(16))?;
+    line(rt, "message of 17 bytes from the wire: errno ", came(17))
 }
 
-fn say_queue() {
-    line(b"18th queued: errno ", more(seventeen()));
-    line(b"19th queued: errno ", more(one(seventeen(), 1)));
+fn say_queue(rt: &impl Print) -> io::Result<()> {
+    line(rt, "18th queued: errno ", more(seventeen()))?;
+    line(rt, "19th queued: errno ", more(one(seventeen(), 1)))?;
     line(
-        b"18th queued by the core: the next, errno ",
+        rt,
+        "18th queued by the core: the next, errno ",
         more(version_asked(seventeen())),
-    );
+    )?;
     line(
-        b"19th of the core dropped: the next after a start, errno ",
+        rt,
+        "19th of the core dropped: the next after a start, errno ",
         more(version_asked(one(seventeen(), 1)).bus_start().adapter),
-    );
+    )
 }
 
-fn say_beside() {
-    line(b"mode 0x21 transmits beside 0x02: errno ", beside(0x21));
-    line(b"mode 0x31 transmits beside 0x02: errno ", beside(0x31));
-    line(b"mode 0x11 transmits beside 0x02: errno ", beside(0x11));
-    line(b"mode 0x01 transmits beside 0x02: errno ", beside(0x01));
-    line(b"mode 0x00 transmits beside 0x02: errno ", beside(0x00));
+fn say_beside(rt: &impl Print) -> io::Result<()> {
+    line(rt, "mode 0x21 transmits beside 0x02: errno ", beside(0x21))?;
+    line(rt, "mode 0x31 transmits beside 0x02: errno ", beside(0x31))?;
+    line(rt, "mode 0x11 transmits beside 0x02: errno ", beside(0x11))?;
+    line(rt, "mode 0x01 transmits beside 0x02: errno ", beside(0x01))?;
+    line(rt, "mode 0x00 transmits beside 0x02: errno ", beside(0x00))
 }
 
-fn say_features() {
+fn say_features(rt: &impl Print) -> io::Result<()> {
     line(
-        b"version 6, bytes FF 7F 7F: errno ",
+        rt,
+        "version 6, bytes FF 7F 7F: errno ",
         configured(6, 0xFF, 0x7F, 0x7F),
-    );
+    )?;
     line(
-        b"version 6, bytes 00 80 00: errno ",
+        rt,
+        "version 6, bytes 00 80 00: errno ",
         configured(6, 0, 0x80, 0),
-    );
+    )?;
     line(
-        b"version 6, bytes 00 00 80: errno ",
+        rt,
+        "version 6, bytes 00 00 80: errno ",
         configured(6, 0, 0, 0x80),
-    );
-    line(b"version 5, bytes 01 00 00: errno ", configured(5, 1, 0, 0));
-    io::write_all(1, b"version 6, bytes 10 4A 23, came 04 A5: sent");
-    say_six(features_asked(CEC_OP_CEC_VERSION_2_0, 0x10, 0x4A, 0x23));
-    io::write_all(1, b"version 5, came 04 A5: sent");
-    say_six(features_asked(CEC_OP_CEC_VERSION_1_4, 0, 0, 0));
+    )?;
+    line(
+        rt,
+        "version 5, bytes 01 00 00: errno ",
+        configured(5, 1, 0, 0),
+    )?;
+    say_six(
+        rt,
+        "version 6, bytes 10 4A 23, came 04 A5: sent",
+        features_asked(CEC_OP_CEC_VERSION_2_0, 0x10, 0x4A, 0x23),
+    )?;
+    say_six(
+        rt,
+        "version 5, came 04 A5: sent",
+        features_asked(CEC_OP_CEC_VERSION_1_4, 0, 0, 0),
+    )
 }
 
-fn say_masks() {
-    line(b"mask 0x0000: errno ", owning(0x0000));
-    line(b"mask 0x000F: errno ", owning(0x000F));
-    line(b"mask 0x001F: errno ", owning(0x001F));
-    line(b"mask 0x8001: errno ", owning(0x8001));
-    line(b"mask 0x7800: errno ", owning(0x7800));
-    line(b"mask 0x7FFF: errno ", owning(0x7FFF));
+fn say_masks(rt: &impl Print) -> io::Result<()> {
+    line(rt, "mask 0x0000: errno ", owning(0x0000))?;
+    line(rt, "mask 0x000F: errno ", owning(0x000F))?;
+    line(rt, "mask 0x001F: errno ", owning(0x001F))?;
+    line(rt, "mask 0x8001: errno ", owning(0x8001))?;
+    line(rt, "mask 0x7800: errno ", owning(0x7800))?;
+    line(rt, "mask 0x7FFF: errno ", owning(0x7FFF))
 }
 
-fn say_picture() {
-    say_active(b"came 0F 86 21 00: active ", active(0x0F, 4, 0x86, 0x21, 0));
+fn say_picture(rt: &impl Print) -> io::Result<()> {
     say_active(
-        b"came 0F 80 21 00 32 00: active ",
+        rt,
+        "came 0F 86 21 00: active ",
+        active(0x0F, 4, 0x86, 0x21, 0),
+    )?;
+    say_active(
+        rt,
+        "came 0F 80 21 00 32 00: active ",
         active(0x0F, 6, 0x80, 0x21, 0x32),
-    );
-    say_active(b"came 04 86 21 00: active ", active(0x04, 4, 0x86, 0x21, 0));
+    )?;
     say_active(
-        b"came 0F 82 21 00 00: active ",
+        rt,
+        "came 04 86 21 00: active ",
+        active(0x04, 4, 0x86, 0x21, 0),
+    )?;
+    say_active(
+        rt,
+        "came 0F 82 21 00 00: active ",
         active(0x0F, 5, 0x82, 0x21, 0),
-    );
-    say_active(b"came 05 9D 21 00: active ", active(0x05, 4, 0x9D, 0x21, 0));
-    say_active(b"came 05 9D 10 00: active ", active(0x05, 4, 0x9D, 0x10, 0));
-    say_way(0x2000, 0x2130);
-    say_way(0x2200, 0x2130);
-    say_way(0x2010, 0x2130);
+    )?;
+    say_active(
+        rt,
+        "came 05 9D 21 00: active ",
+        active(0x05, 4, 0x9D, 0x21, 0),
+    )?;
+    say_active(
+        rt,
+        "came 05 9D 10 00: active ",
+        active(0x05, 4, 0x9D, 0x10, 0),
+    )?;
+    say_way(rt, 0x2000, 0x2130)?;
+    say_way(rt, 0x2200, 0x2130)?;
+    say_way(rt, 0x2010, 0x2130)
 }
 
-fn say_timestamps() {
+fn say_timestamps(rt: &impl Print) -> io::Result<()> {
     let on_wire = sending(0x8F, 0);
     let monitored = on_wire.set_mode(0, CEC_MODE_MONITOR).adapter;
     let followed = on_wire
@@ -474,62 +503,80 @@ fn say_timestamps() {
         .adapter
         .receive(0)
         .adapter;
-    say_times(b"result", ended(on_wire, SENT_AT).adapter);
+    say_times(rt, "result", ended(on_wire, SENT_AT).adapter)?;
     say_times(
-        b"monitor's copy of a result",
+        rt,
+        "monitor's copy of a result",
         ended(monitored, SENT_AT).adapter,
-    );
+    )?;
     say_times(
-        b"follower's copy of a message",
+        rt,
+        "follower's copy of a message",
         all_told(followed, CAME_AT).adapter,
-    );
+    )?;
     say_times(
-        b"reply after a later result",
+        rt,
+        "reply after a later result",
         all_told(sent_since, CAME_AT).adapter,
-    );
-    say_times(b"Feature Abort reply", arc_asked(3, 0x00, 0xC0));
-    say_times(b"timeout", asking.time_passed(1000).adapter);
-    say_times(b"aborted wait", asking.unconfigure().adapter);
+    )?;
+    say_times(rt, "Feature Abort reply", arc_asked(3, 0x00, 0xC0))?;
+    say_times(rt, "timeout", asking.time_passed(1000).adapter)?;
+    say_times(rt, "aborted wait", asking.unconfigure().adapter)?;
     say_times(
-        b"result of unconfigure",
+        rt,
+        "result of unconfigure",
         all_told(on_wire, SENT_AT).adapter.unconfigure().adapter,
-    );
+    )
 }
 
 // Every result and every message that is taken sets the last time, and unconfigure keeps it.
-fn say_clock() {
+fn say_clock(rt: &impl Print) -> io::Result<()> {
     let after_result = one(waiting(0x8F, 0), 0).bus_start().adapter;
     let after_message = all_told(sending(0x8F, 0), SENT_AT).adapter;
-    say_results(b"result 1 ns before the last result: errno ", after_result);
-    say_messages(b"message 1 ns before the last result: errno ", after_result);
     say_results(
-        b"result 1 ns before the last message: errno ",
-        after_message,
-    );
+        rt,
+        "result 1 ns before the last result: errno ",
+        after_result,
+    )?;
     say_messages(
-        b"message 1 ns before the last message: errno ",
+        rt,
+        "message 1 ns before the last result: errno ",
+        after_result,
+    )?;
+    say_results(
+        rt,
+        "result 1 ns before the last message: errno ",
         after_message,
-    );
+    )?;
     say_messages(
-        b"message 1 ns before a poll: errno ",
+        rt,
+        "message 1 ns before the last message: errno ",
+        after_message,
+    )?;
+    say_messages(
+        rt,
+        "message 1 ns before a poll: errno ",
         bench(true).received(1, [0x04; 16], SENT_AT).adapter,
-    );
+    )?;
     say_messages(
-        b"message 1 ns before one to 5: errno ",
+        rt,
+        "message 1 ns before one to 5: errno ",
         bench(true).received(2, [0x05; 16], SENT_AT).adapter,
-    );
+    )?;
     say_messages(
-        b"message 1 ns before one while unconfigured: errno ",
+        rt,
+        "message 1 ns before one while unconfigured: errno ",
         all_told(Adapter::fresh(true, true), SENT_AT).adapter,
-    );
+    )?;
     say_messages(
-        b"message 1 ns before the last, unconfigured since: errno ",
+        rt,
+        "message 1 ns before the last, unconfigured since: errno ",
         after_message.unconfigure().adapter,
-    );
+    )
 }
 
 // What is refused leaves the last time as it was, and the message on the wire.
-fn say_refused() {
+fn say_refused(rt: &impl Print) -> io::Result<()> {
     let after_message = all_told(sending(0x8F, 0), SENT_AT).adapter;
     let too_early = ended(after_message, JUST_BEFORE).adapter;
     let not_final = after_message
@@ -537,36 +584,38 @@ fn say_refused() {
         .adapter;
     let too_long = after_message.received(17, [0x0F; 16], CAME_AT).adapter;
     line(
-        b"result refused for its time, again: errno ",
+        rt,
+        "result refused for its time, again: errno ",
         ended(too_early, JUST_BEFORE).errno,
-    );
-    line(b"same, bus start: errno ", too_early.bus_start().errno);
+    )?;
+    line(rt, "same, bus start: errno ", too_early.bus_start().errno)?;
     line(
-        b"result 0x02 refused at 7 s, then a result at 5 s: errno ",
+        rt,
+        "result 0x02 refused at 7 s, then a result at 5 s: errno ",
         ended(not_final, SENT_AT).errno,
-    );
+    )?;
     line(
-        b"message of 17 bytes refused at 7 s, then a message at 5 s: errno ",
+        rt,
+        "message of 17 bytes refused at 7 s, then a message at 5 s: errno ",
         all_told(too_long, SENT_AT).errno,
-    );
+    )
 }
 
-fn main() {
-    say_modes();
-    say(b"poll 44: errno ", poll().errno);
-    line(b", tx_status ", poll().status);
-    say_replies();
-    line(b"result 0x21: errno ", result(0x21));
-    line(b"result 0x02: errno ", result(0x02));
-    line(b"last number 4294967295: next is ", next_after_last());
-    say_lengths();
-    say_queue();
-    say_beside();
-    say_features();
-    say_masks();
-    say_picture();
-    say_rules();
-    say_timestamps();
-    say_clock();
-    say_refused();
+fn main(rt: HostRuntime) -> io::Result<()> {
+    say_modes(&rt)?;
+    say_poll(&rt)?;
+    say_replies(&rt)?;
+    line(&rt, "result 0x21: errno ", result(0x21))?;
+    line(&rt, "result 0x02: errno ", result(0x02))?;
+    line(&rt, "last number 4294967295: next is ", next_after_last())?;
+    say_lengths(&rt)?;
+    say_queue(&rt)?;
+    say_beside(&rt)?;
+    say_features(&rt)?;
+    say_masks(&rt)?;
+    say_picture(&rt)?;
+    say_rules(&rt)?;
+    say_timestamps(&rt)?;
+    say_clock(&rt)?;
+    say_refused(&rt)
 }

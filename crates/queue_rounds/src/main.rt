@@ -3,6 +3,7 @@
 #![tactic(auto)]
 
 use queue::Queue;
+use std::io;
 use transmission::Transmission;
 
 const MANY: u32 = 10000;
@@ -27,7 +28,7 @@ fn transmission(owner: u8, sequence: u32) -> Transmission {
 
 // One more, numbered after the last; handles 2 and 1 by turns.
 fn one_in(mut run: Run) -> Run {
-    let n = std::num::wrapping_add_u32(run.put, 1);
+    let n = run.put.wrapping_add(1);
     run.put = n;
     run.queue = run.queue.put(transmission((n % 2 + 1) as u8, n));
     run
@@ -35,10 +36,10 @@ fn one_in(mut run: Run) -> Run {
 
 // The head, which is in its turn if its number is the next.
 fn one_out(mut run: Run) -> Run {
-    let n = std::num::wrapping_add_u32(run.taken, 1);
+    let n = run.taken.wrapping_add(1);
     run.taken = n;
     if (run.queue.head().sequence == n) & run.queue.has_sequence(n) {
-        run.in_turn = std::num::wrapping_add_u32(run.in_turn, 1);
+        run.in_turn = run.in_turn.wrapping_add(1);
     }
     run.queue = run.queue.without_head();
     run
@@ -68,39 +69,28 @@ fn filled(position: u32, many: u32) -> Run {
     turns(start, many, false)
 }
 
-fn say(text: &[u8], number: u64) {
-    io::write_all(1, text);
-    io::print_decimal(1, number);
+fn say_turns(rt: &impl Print, position: u32, queued: u32) -> io::Result<()> {
+    let in_turn = turns(filled(position, queued), MANY, true).in_turn;
+    println!(rt; "from position {position}, with {queued} queued before: in turn {in_turn}")
 }
 
-fn say_turns(position: u32, queued: u32) {
-    say(b"from position ", position as u64);
-    say(b", with ", queued as u64);
-    say(
-        b" queued before: in turn ",
-        turns(filled(position, queued), MANY, true).in_turn as u64,
-    );
-    io::write_all(1, b"\n");
+fn say_queued(rt: &impl Print, text: &str, queue: Queue) -> io::Result<()> {
+    println!(rt;
+        "{text}: queued {}, the last is number {}; of handle 1 {}, of handle 2 {}",
+        queue.count(),
+        queue.at(17).sequence,
+        queue.owed(1).room,
+        queue.owed(2).room
+    )
 }
 
-fn say_queued(queue: Queue) {
-    say(b": queued ", queue.count() as u64);
-    say(b", the last is number ", queue.at(17).sequence as u64);
-    say(b"; of handle 1 ", queue.owed(1).room as u64);
-    say(b", of handle 2 ", queue.owed(2).room as u64);
-    io::write_all(1, b"\n");
-}
-
-fn main() {
-    say_turns(0, 0);
-    say_turns(31, 17);
-    say_turns(LAST - 5000, 3);
-    say_turns(LAST, 17);
+fn main(rt: HostRuntime) -> io::Result<()> {
+    say_turns(&rt, 0, 0)?;
+    say_turns(&rt, 31, 17)?;
+    say_turns(&rt, LAST - 5000, 3)?;
+    say_turns(&rt, LAST, 17)?;
     let queue = filled(LAST - 8, 19).queue;
-    io::write_all(1, b"19 put across the wrap");
-    say_queued(queue);
-    io::write_all(1, b"handle 2 closed");
-    say_queued(queue.orphaned(2));
-    io::write_all(1, b"emptied");
-    say_queued(queue.emptied());
+    say_queued(&rt, "19 put across the wrap", queue)?;
+    say_queued(&rt, "handle 2 closed", queue.orphaned(2))?;
+    say_queued(&rt, "emptied", queue.emptied())
 }

@@ -2,20 +2,12 @@
 -- Assumes nothing.
 use Prim.Native.Nat.{ℕ, ◌+◌, ◌-◌, ◌≤◌, ◌<◌, min}
 use mathlib.Core.List.{List}
-use mathlib.Core.Path.{◌≡◌, ◌∙◌, ap}
+use mathlib.Core.Path.{◌≡◌, ◌∙◌}
 use native.Mathlib.Omega.{arith}
 use lib.ListN.{length, get_or, take, replicate, length-take, get_or-append}
-use denote.Laws.{Is}
-use mir.Val.{Val}
 use lib.Seq.{get_or-take, get_or-append-add}
-use Rattle.lists.specs.Elements.{get_d_replicated, unmapped}
+use Rattle.lists.specs.Elements.{get_d_replicated}
 use Rattle.message.specs.Message.{message}
-use Rattle.request.specs.contracts.Request as the
-use Rattle.request.specs.declared.Request.{Request}
-
--- that a request has 16 bytes is part of what owning it tells
-pub request_long : (r : Request) (vs : List Val) → Is the.the_row r vs → length r.bytes ≡ 16
-request_long r vs p = unmapped _ r.bytes 16 p.1.1.1.0.1.0.1
 
 pub sent_past : (n i : ℕ) (bs : List ℕ) → length bs ≡ 16 → min n 16 ≤ i → get_or (message n bs).bytes i 0 ≡ 0
 unfolding message

@@ -5,6 +5,7 @@ use adapter::Adapter;
 use constants::{CEC_LOG_ADDR_UNREGISTERED, CEC_TX_STATUS_OK};
 use entry::Counts;
 use request::Request;
+use std::io;
 
 const ROUNDS: u64 = 10000;
 
@@ -30,13 +31,12 @@ fn round(adapter: Adapter, ts: u64) -> Adapter {
     done.adapter.receive(0).adapter
 }
 
-fn main() {
+fn main(rt: HostRuntime) -> io::Result<()> {
     let mut now = Adapter::fresh(true, true).open(false).adapter;
     let mut i = 0;
     while i < ROUNDS {
         now = round(now, i);
         i += 1;
     }
-    io::print_decimal(1, now.transmit(0, poll()).sequence as u64);
-    io::write_all(1, b"\n");
+    println!(rt; "{}", now.transmit(0, poll()).sequence)
 }

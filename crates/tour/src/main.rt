@@ -16,6 +16,7 @@ use entry::{Counts, Entry};
 use handle::Row;
 use request::Request;
 use settings::Settings;
+use std::{fmt, io};
 
 // The display and the amplifier on the wire, and the address of the box.
 const DISPLAY: u8 = 0;
@@ -38,37 +39,28 @@ const CONTROLLER: u8 = 3;
 
 const NANOSECONDS_PER_MS: u64 = 1000000;
 
-fn say(text: &[u8]) {
-    io::write_all(1, text);
-}
-
-fn say_number(text: &[u8], number: u32) {
-    say(text);
-    io::print_decimal(1, number as u64);
-}
-
-fn say_program(handle: u8) {
-    if handle == CAMERA {
-        say(b"camera");
-    } else if handle == CHART {
-        say(b"chart");
-    } else if handle == MONITOR {
-        say(b"monitor");
-    } else {
-        say(b"controller");
+// A program, by its handle.
+fn program(handle: u8) -> &'static str {
+    match handle {
+        CAMERA => "camera",
+        CHART => "chart",
+        MONITOR => "monitor",
+        _ => "controller",
     }
 }
 
-fn opened(adapter: Adapter, privileged: bool) -> Adapter {
+fn opened(rt: &impl Print, adapter: Adapter, privileged: bool) -> io::Result<Adapter> {
     let answer = adapter.open(privileged);
-    say_program(answer.handle);
-    say_number(b": open, errno ", answer.errno);
-    say_number(b", handle ", answer.handle as u32);
-    say(b"\n");
-    answer.adapter
+    println!(rt;
+        "{}: open, errno {}, handle {}",
+        program(answer.handle),
+        answer.errno,
+        answer.handle
+    )?;
+    Ok(answer.adapter)
 }
 
-fn configured(adapter: Adapter) -> Adapter {
+fn configured(rt: &impl Print, adapter: Adapter) -> io::Result<Adapter> {
     let mut name = [0; 14];
     name[0] = 0x54;
     name[1] = 0x55;
@@ -85,9 +77,8 @@ fn configured(adapter: Adapter) -> Adapter {
         rc_profile: 0,
         device_features: 0,
     });
-    say_number(b"box: configure, errno ", answer.errno);
-    say(b"\n");
-    answer.adapter
+    println!(rt; "box: configure, errno {}", answer.errno)?;
+    Ok(answer.adapter)
 }
 
 // A message without parameters.
@@ -104,28 +95,32 @@ fn request(from: u8, to: u8, opcode: u8, reply: u8) -> Request {
     }
 }
 
-fn transmitted(adapter: Adapter, handle: u8, request: Request) -> Adapter {
+fn transmitted(
+    rt: &impl Print,
+    adapter: Adapter,
+    handle: u8,
+    request: Request,
+) -> io::Result<Adapter> {
     let answer = adapter.transmit(handle, request);
-    say_program(handle);
-    say_number(b": transmit to ", (request.bytes[0] % 16) as u32);
-    say_number(b", errno ", answer.errno);
-    say_number(b", number ", answer.sequence);
-    say(b"\n");
-    answer.adapter
+    println!(rt;
+        "{}: transmit to {}, errno {}, number {}",
+        program(handle),
+        request.bytes[0] % 16,
+        answer.errno,
+        answer.sequence
+    )?;
+    Ok(answer.adapter)
 }
 
 // A device is asked for its power status.
-fn asked(adapter: Adapter, handle: u8, device: u8) -> Adapter {
-    transmitted(
-        adapter,
-        handle,
-        request(
-            BOX,
-            device,
-            CEC_MSG_GIVE_DEVICE_POWER_STATUS,
-            CEC_MSG_REPORT_POWER_STATUS,
-        ),
-    )
+fn asked(rt: &impl Print, adapter: Adapter, handle: u8, device: u8) -> io::Result<Adapter> {
+    let question = request(
+        BOX,
+        device,
+        CEC_MSG_GIVE_DEVICE_POWER_STATUS,
+        CEC_MSG_REPORT_POWER_STATUS,
+    );
+    transmitted(rt, adapter, handle, question)
 }
 
 // The driver's clock, for the adapter.
@@ -133,24 +128,37 @@ fn nanoseconds(ms: u32) -> u64 {
     ms as u64 * NANOSECONDS_PER_MS
 }
 
-fn started(adapter: Adapter) -> Adapter {
+fn started(rt: &impl Print, adapter: Adapter) -> io::Result<Adapter> {
     let answer = adapter.bus_start();
-    say_number(b"wire: start, errno ", answer.errno);
-    say_number(b", to ", answer.message.destination() as u32);
-    answer.adapter
+    print!(rt;
+        "wire: start, errno {}, to {}",
+        answer.errno,
+        answer.message.destination()
+    )?;
+    Ok(answer.adapter)
 }
 
-fn ended(adapter: Adapter, status: u8, counts: Counts, ms: u32) -> Adapter {
+fn ended(
+    rt: &impl Print,
+    adapter: Adapter,
+    status: u8,
+    counts: Counts,
+    ms: u32,
+) -> io::Result<Adapter> {
     let answer = adapter.bus_result(status, counts, nanoseconds(ms));
-    say_number(b"; result, errno ", answer.errno);
-    say_number(b", status ", status as u32);
-    say(b"\n");
-    answer.adapter
+    println!(rt; "; result, errno {}, status {status}", answer.errno)?;
+    Ok(answer.adapter)
 }
 
 // The next message goes out and comes to its end, when the driver's clock shows these milliseconds.
-fn sent(adapter: Adapter, status: u8, counts: Counts, ms: u32) -> Adapter {
-    ended(started(adapter), status, counts, ms)
+fn sent(
+    rt: &impl Print,
+    adapter: Adapter,
+    status: u8,
+    counts: Counts,
+    ms: u32,
+) -> io::Result<Adapter> {
+    ended(rt, started(rt, adapter)?, status, counts, ms)
 }
 
 // A message of three bytes comes from the wire.
@@ -162,46 +170,50 @@ fn came(adapter: Adapter, from: u8, to: u8, opcode: u8, third: u8, ms: u32) -> A
     adapter.received(3, bytes, nanoseconds(ms)).adapter
 }
 
-fn say_message(from: u8, opcode: u8) {
-    say_number(b"wire: message from ", from as u32);
-    say_number(b", opcode ", opcode as u32);
-    say(b"\n");
+fn say_message(rt: &impl Print, from: u8, opcode: u8) -> io::Result<()> {
+    println!(rt; "wire: message from {from}, opcode {opcode}")
 }
 
 // A device answers the box.
-fn answered(adapter: Adapter, from: u8, opcode: u8, third: u8, ms: u32) -> Adapter {
-    say_message(from, opcode);
-    came(adapter, from, BOX, opcode, third, ms)
+fn answered(
+    rt: &impl Print,
+    adapter: Adapter,
+    from: u8,
+    opcode: u8,
+    third: u8,
+    ms: u32,
+) -> io::Result<Adapter> {
+    say_message(rt, from, opcode)?;
+    Ok(came(adapter, from, BOX, opcode, third, ms))
 }
 
-fn say_entry(entry: Entry) {
-    say_number(b": receive, number ", entry.sequence);
-    say_number(b", tx_status ", entry.tx_status as u32);
-    say_number(b", rx_status ", entry.rx_status as u32);
-    say_number(b", opcode ", entry.message.opcode() as u32);
-    say(b"\n");
+fn say_entry(rt: &impl Print, handle: u8, entry: Entry) -> io::Result<()> {
+    println!(rt;
+        "{}: receive, number {}, tx_status {}, rx_status {}, opcode {}",
+        program(handle),
+        entry.sequence,
+        entry.tx_status,
+        entry.rx_status,
+        entry.message.opcode()
+    )
 }
 
-fn say_received(errno: u32, entry: Entry) {
+fn say_received(rt: &impl Print, handle: u8, errno: u32, entry: Entry) -> io::Result<()> {
     if errno == 0 {
-        say_entry(entry);
-    } else {
-        say_number(b": receive, errno ", errno);
-        say(b"\n");
+        return say_entry(rt, handle, entry);
     }
+    println!(rt; "{}: receive, errno {errno}", program(handle))
 }
 
-fn received(adapter: Adapter, handle: u8) -> Adapter {
-    say_program(handle);
+fn received(rt: &impl Print, adapter: Adapter, handle: u8) -> io::Result<Adapter> {
     let answer = adapter.receive(handle);
-    say_received(answer.errno, answer.entry);
-    answer.adapter
+    say_received(rt, handle, answer.errno, answer.entry)?;
+    Ok(answer.adapter)
 }
 
-fn passed(adapter: Adapter, ms: u32) -> Adapter {
-    say_number(b"clock: milliseconds ", ms);
-    say(b"\n");
-    adapter.time_passed(ms).adapter
+fn passed(rt: &impl Print, adapter: Adapter, ms: u32) -> io::Result<Adapter> {
+    println!(rt; "clock: milliseconds {ms}")?;
+    Ok(adapter.time_passed(ms).adapter)
 }
 
 // The display tells all devices of a menu.
@@ -230,241 +242,248 @@ fn nine_told(adapter: Adapter, ms: u32) -> Adapter
 }
 
 // Each program reads what it has, oldest first.
-fn read_out(adapter: Adapter) -> Adapter {
-    received(
-        received(received(received(adapter, CAMERA), CAMERA), CHART),
-        CHART,
-    )
+fn read_out(rt: &impl Print, adapter: Adapter) -> io::Result<Adapter> {
+    let mut now = received(rt, adapter, CAMERA)?;
+    now = received(rt, now, CAMERA)?;
+    now = received(rt, now, CHART)?;
+    received(rt, now, CHART)
 }
 
 // The display is woken before the box has an address.
-fn woken(adapter: Adapter) -> Adapter {
-    let mut now = transmitted(
-        adapter,
-        CAMERA,
-        request(CEC_LOG_ADDR_UNREGISTERED, DISPLAY, CEC_MSG_IMAGE_VIEW_ON, 0),
-    );
-    now = sent(now, CEC_TX_STATUS_OK, Counts::none(), 100);
-    received(now, CAMERA)
+fn woken(rt: &impl Print, adapter: Adapter) -> io::Result<Adapter> {
+    let wake = request(CEC_LOG_ADDR_UNREGISTERED, DISPLAY, CEC_MSG_IMAGE_VIEW_ON, 0);
+    let mut now = transmitted(rt, adapter, CAMERA, wake)?;
+    now = sent(rt, now, CEC_TX_STATUS_OK, Counts::none(), 100)?;
+    received(rt, now, CAMERA)
 }
 
 // Both ask, the replies come the other way round, and each gets its own.
-fn replies(adapter: Adapter) -> Adapter {
-    let mut now = asked(adapter, CAMERA, DISPLAY);
-    now = asked(now, CHART, AMPLIFIER);
-    now = sent(now, CEC_TX_STATUS_OK, Counts::none(), 1000);
-    now = sent(now, CEC_TX_STATUS_OK, Counts::none(), 1060);
-    now = answered(now, AMPLIFIER, CEC_MSG_REPORT_POWER_STATUS, 0, 1200);
-    now = answered(now, DISPLAY, CEC_MSG_REPORT_POWER_STATUS, 1, 1280);
-    now = read_out(now);
-    received(received(now, CAMERA), CHART)
+fn replies(rt: &impl Print, adapter: Adapter) -> io::Result<Adapter> {
+    let mut now = asked(rt, adapter, CAMERA, DISPLAY)?;
+    now = asked(rt, now, CHART, AMPLIFIER)?;
+    now = sent(rt, now, CEC_TX_STATUS_OK, Counts::none(), 1000)?;
+    now = sent(rt, now, CEC_TX_STATUS_OK, Counts::none(), 1060)?;
+    now = answered(rt, now, AMPLIFIER, CEC_MSG_REPORT_POWER_STATUS, 0, 1200)?;
+    now = answered(rt, now, DISPLAY, CEC_MSG_REPORT_POWER_STATUS, 1, 1280)?;
+    now = read_out(rt, now)?;
+    now = received(rt, now, CAMERA)?;
+    received(rt, now, CHART)
 }
 
 // One is not answered in time, the other is told that the opcode is not known.
-fn no_replies(adapter: Adapter) -> Adapter {
-    let mut now = asked(adapter, CAMERA, DISPLAY);
-    now = asked(now, CHART, AMPLIFIER);
-    now = sent(now, CEC_TX_STATUS_OK, Counts::none(), 2000);
-    now = sent(now, CEC_TX_STATUS_OK, Counts::none(), 2060);
-    now = passed(now, 999);
+fn no_replies(rt: &impl Print, adapter: Adapter) -> io::Result<Adapter> {
+    let mut now = asked(rt, adapter, CAMERA, DISPLAY)?;
+    now = asked(rt, now, CHART, AMPLIFIER)?;
+    now = sent(rt, now, CEC_TX_STATUS_OK, Counts::none(), 2000)?;
+    now = sent(rt, now, CEC_TX_STATUS_OK, Counts::none(), 2060)?;
+    now = passed(rt, now, 999)?;
     now = answered(
+        rt,
         now,
         AMPLIFIER,
         CEC_MSG_FEATURE_ABORT,
         CEC_MSG_GIVE_DEVICE_POWER_STATUS,
         3059,
-    );
-    now = passed(now, 1);
-    read_out(now)
+    )?;
+    now = passed(rt, now, 1)?;
+    read_out(rt, now)
 }
 
 // A message that is not taken off the wire.
-fn refused(adapter: Adapter) -> Adapter {
+fn refused(rt: &impl Print, adapter: Adapter) -> io::Result<Adapter> {
     let mut counts = Counts::none();
     counts.nack = 5;
-    let mut now = asked(adapter, CHART, AMPLIFIER);
+    let mut now = asked(rt, adapter, CHART, AMPLIFIER)?;
     now = sent(
+        rt,
         now,
         CEC_TX_STATUS_NACK | CEC_TX_STATUS_MAX_RETRIES,
         counts,
         4000,
-    );
-    received(received(now, CHART), CHART)
+    )?;
+    now = received(rt, now, CHART)?;
+    received(rt, now, CHART)
 }
 
-fn in_mode(adapter: Adapter, handle: u8, mode: u32) -> Adapter {
+fn in_mode(rt: &impl Print, adapter: Adapter, handle: u8, mode: u32) -> io::Result<Adapter> {
     let answer = adapter.set_mode(handle, mode);
-    say_program(handle);
-    say_number(b": mode ", mode);
-    say_number(b", errno ", answer.errno);
-    say(b"\n");
-    answer.adapter
+    println!(rt; "{}: mode {mode}, errno {}", program(handle), answer.errno)?;
+    Ok(answer.adapter)
 }
 
-fn say_row(row: Row) {
-    say_number(b"listing: handle ", row.number as u32);
-    say_number(b", mode ", row.mode);
-    say_number(b", entries ", row.entries);
-    say_number(b", owed ", row.owed);
-    say_number(b", lost ", row.lost);
-    say(b"\n");
+fn say_row(rt: &impl Print, row: Row) -> io::Result<()> {
+    println!(rt;
+        "listing: handle {}, mode {}, entries {}, owed {}, lost {}",
+        row.number, row.mode, row.entries, row.owed, row.lost
+    )
 }
 
 // The listing's rows of the three programs.
-fn listed(adapter: Adapter) {
+fn listed(rt: &impl Print, adapter: Adapter) -> io::Result<()> {
     let table = listing::listed_rows(adapter);
     let rows = table.rows;
-    say_row(rows[0]);
-    say_row(rows[1]);
-    say_row(rows[2]);
+    say_row(rt, rows[0])?;
+    say_row(rt, rows[1])?;
+    say_row(rt, rows[2])
 }
 
 // A monitor has room for 16 copies; the listing says how many it lost.
-fn watched(adapter: Adapter) -> Adapter {
-    let watching = in_mode(opened(adapter, true), MONITOR, CEC_MODE_MONITOR);
-    let now = nine_told(nine_told(watching, 7000), 7720);
-    say(b"wire: 18 messages from 0 to all\n");
-    listed(now);
-    received(received(now, MONITOR), CAMERA)
+fn watched(rt: &impl Print, adapter: Adapter) -> io::Result<Adapter> {
+    let mut now = opened(rt, adapter, true)?;
+    now = in_mode(rt, now, MONITOR, CEC_MODE_MONITOR)?;
+    now = nine_told(nine_told(now, 7000), 7720);
+    println!(rt; "wire: 18 messages from 0 to all")?;
+    listed(rt, now)?;
+    now = received(rt, now, MONITOR)?;
+    received(rt, now, CAMERA)
 }
 
 // The display asks the box for its CEC version.
-fn version_asked(adapter: Adapter) -> Adapter {
+fn version_asked(rt: &impl Print, adapter: Adapter) -> io::Result<Adapter> {
     let question = request(DISPLAY, BOX, CEC_MSG_GET_CEC_VERSION, 0);
-    let bytes = question.bytes;
-    say_message(DISPLAY, CEC_MSG_GET_CEC_VERSION);
-    adapter
-        .received(question.length, bytes, nanoseconds(9000))
-        .adapter
+    say_message(rt, DISPLAY, CEC_MSG_GET_CEC_VERSION)?;
+    let answer = adapter.received(question.length, question.bytes, nanoseconds(9000));
+    Ok(answer.adapter)
 }
 
 // The controller tells it.
-fn version_told(adapter: Adapter) -> Adapter {
+fn version_told(rt: &impl Print, adapter: Adapter) -> io::Result<Adapter> {
     let mut answer = request(BOX, DISPLAY, CEC_MSG_CEC_VERSION, 0);
     answer.length = 3;
     answer.bytes[2] = CEC_OP_CEC_VERSION_1_4;
-    transmitted(adapter, CONTROLLER, answer)
+    transmitted(rt, adapter, CONTROLLER, answer)
 }
 
 // The core leaves a question to the passthrough follower, which may answer it beside an exclusive initiator.
-fn controlled(adapter: Adapter) -> Adapter {
-    let mut now = in_mode(
-        opened(adapter, false),
+fn controlled(rt: &impl Print, adapter: Adapter) -> io::Result<Adapter> {
+    let mut now = opened(rt, adapter, false)?;
+    now = in_mode(
+        rt,
+        now,
         CONTROLLER,
         CEC_MODE_EXCL_FOLLOWER_PASSTHRU | CEC_MODE_INITIATOR,
-    );
-    now = in_mode(now, CAMERA, CEC_MODE_EXCL_INITIATOR);
-    now = received(version_asked(now), CONTROLLER);
-    now = asked(now, CHART, AMPLIFIER);
-    now = sent(version_told(now), CEC_TX_STATUS_OK, Counts::none(), 9100);
-    now = received(now, CONTROLLER);
-    in_mode(now, CAMERA, CEC_MODE_INITIATOR)
+    )?;
+    now = in_mode(rt, now, CAMERA, CEC_MODE_EXCL_INITIATOR)?;
+    now = version_asked(rt, now)?;
+    now = received(rt, now, CONTROLLER)?;
+    now = asked(rt, now, CHART, AMPLIFIER)?;
+    now = version_told(rt, now)?;
+    now = sent(rt, now, CEC_TX_STATUS_OK, Counts::none(), 9100)?;
+    now = received(rt, now, CONTROLLER)?;
+    in_mode(rt, now, CAMERA, CEC_MODE_INITIATOR)
 }
 
-fn looked_up(adapter: Adapter, address: u8) {
+fn looked_up(rt: &impl Print, adapter: Adapter, address: u8) -> io::Result<()> {
     let answer = adapter.lookup(address);
-    say_number(b"box: lookup of ", address as u32);
-    say_number(b", errno ", answer.errno);
-    say_number(b", physical address ", answer.address as u32);
-    say(b"\n");
+    println!(rt;
+        "box: lookup of {address}, errno {}, physical address {}",
+        answer.errno, answer.address
+    )
 }
 
 // The amplifier reports its physical address, 0x2000.
-fn reported(adapter: Adapter) -> Adapter {
+fn reported(rt: &impl Print, adapter: Adapter) -> io::Result<Adapter> {
     let mut bytes = [0; 16];
     bytes[0] = AMPLIFIER * 16 + CEC_LOG_ADDR_BROADCAST;
     bytes[1] = CEC_MSG_REPORT_PHYSICAL_ADDR;
     bytes[2] = 0x20;
     let answer = adapter.received(5, bytes, nanoseconds(5000));
-    looked_up(answer.adapter, AMPLIFIER);
-    looked_up(answer.adapter, CEC_LOG_ADDR_BROADCAST);
-    answer.adapter
+    looked_up(rt, answer.adapter, AMPLIFIER)?;
+    looked_up(rt, answer.adapter, CEC_LOG_ADDR_BROADCAST)?;
+    Ok(answer.adapter)
 }
 
-fn say_address(text: &[u8], address: u16) {
-    say_number(text, (address / 4096) as u32);
-    say_number(b".", (address / 256 % 16) as u32);
-    say_number(b".", (address / 16 % 16) as u32);
-    say_number(b".", (address % 16) as u32);
+// A physical address, which is shown by its four digits.
+#[derive(Clone, Copy)]
+struct Place(u16);
+
+impl fmt::Display for Place {
+    fn fmt<W: fmt::Write>(&self, f: &mut fmt::Formatter<W>) -> fmt::Result {
+        let address = self.0;
+        write!(
+            f,
+            "{}.{}.{}.{}",
+            address / 4096,
+            address / 256 % 16,
+            address / 16 % 16,
+            address % 16
+        )
+    }
 }
 
-fn say_picture(adapter: Adapter) {
+fn say_picture(rt: &impl Print, adapter: Adapter) -> io::Result<()> {
     let active = adapter.active_address();
     if active == CEC_PHYS_ADDR_INVALID {
-        say(b"box: no picture\n");
-    } else {
-        say_address(b"box: the picture is at ", active);
-        say(b"\n");
+        return println!(rt; "box: no picture");
     }
+    println!(rt; "box: the picture is at {}", Place(active))
 }
 
-fn say_way(first: u16, second: u16) {
+fn say_way(rt: &impl Print, first: u16, second: u16) -> io::Result<()> {
     let way = route::between(first, second);
-    say_address(b"way: from ", first);
-    say_address(b" to ", second);
-    say_address(b", common ancestor ", way.ancestor);
+    print!(rt;
+        "way: from {} to {}, common ancestor {}",
+        Place(first),
+        Place(second),
+        Place(way.ancestor)
+    )?;
     if way.on_path {
-        say_number(b", port ", way.port as u32);
-    } else {
-        say(b", off the path");
+        return println!(rt; ", port {}", way.port);
     }
-    say(b"\n");
+    println!(rt; ", off the path")
 }
 
 // The amplifier changes its input from 1.0.0.0, the box, to 2.1.0.0; the display asks for the box again.
-fn pictured(adapter: Adapter) -> Adapter {
-    say_picture(adapter);
+fn pictured(rt: &impl Print, adapter: Adapter) -> io::Result<Adapter> {
+    say_picture(rt, adapter)?;
     let mut bytes = [0; 16];
     bytes[0] = AMPLIFIER * 16 + CEC_LOG_ADDR_BROADCAST;
     bytes[1] = CEC_MSG_ROUTING_CHANGE;
     bytes[2] = 0x10;
     bytes[4] = 0x21;
     let changed = adapter.received(6, bytes, nanoseconds(6000));
-    say_message(AMPLIFIER, CEC_MSG_ROUTING_CHANGE);
-    say_picture(changed.adapter);
-    say_way(0x0000, 0x2100);
-    say_way(0x2000, 0x2100);
-    say_way(0x1000, 0x2100);
+    say_message(rt, AMPLIFIER, CEC_MSG_ROUTING_CHANGE)?;
+    say_picture(rt, changed.adapter)?;
+    say_way(rt, 0x0000, 0x2100)?;
+    say_way(rt, 0x2000, 0x2100)?;
+    say_way(rt, 0x1000, 0x2100)?;
     bytes[0] = CEC_LOG_ADDR_BROADCAST;
     bytes[1] = CEC_MSG_SET_STREAM_PATH;
     let asked = changed.adapter.received(4, bytes, nanoseconds(6200));
-    say_message(DISPLAY, CEC_MSG_SET_STREAM_PATH);
-    say_picture(asked.adapter);
-    asked.adapter
+    say_message(rt, DISPLAY, CEC_MSG_SET_STREAM_PATH)?;
+    say_picture(rt, asked.adapter)?;
+    Ok(asked.adapter)
 }
 
-fn address_gone(adapter: Adapter) -> Adapter {
+fn address_gone(rt: &impl Print, adapter: Adapter) -> io::Result<Adapter> {
     let answer = adapter.unconfigure();
-    say_number(b"box: unconfigure, errno ", answer.errno);
-    say(b"\n");
-    answer.adapter
+    println!(rt; "box: unconfigure, errno {}", answer.errno)?;
+    Ok(answer.adapter)
 }
 
 // One transmit waits for its reply, one is queued: the address is taken away.
-fn unconfigured(adapter: Adapter) -> Adapter {
-    let waiting = sent(
-        asked(adapter, CAMERA, DISPLAY),
-        CEC_TX_STATUS_OK,
-        Counts::none(),
-        10000,
-    );
-    let now = read_out(address_gone(asked(waiting, CHART, AMPLIFIER)));
-    asked(now, CHART, AMPLIFIER)
+fn unconfigured(rt: &impl Print, adapter: Adapter) -> io::Result<Adapter> {
+    let mut now = asked(rt, adapter, CAMERA, DISPLAY)?;
+    now = sent(rt, now, CEC_TX_STATUS_OK, Counts::none(), 10000)?;
+    now = asked(rt, now, CHART, AMPLIFIER)?;
+    now = address_gone(rt, now)?;
+    now = read_out(rt, now)?;
+    asked(rt, now, CHART, AMPLIFIER)
 }
 
-fn main() {
+fn main(rt: HostRuntime) -> io::Result<()> {
     let mut now = Adapter::fresh(true, true);
-    now = opened(now, false);
-    now = opened(now, false);
-    now = woken(now);
-    now = configured(now);
-    now = replies(now);
-    now = no_replies(now);
-    now = refused(now);
-    now = reported(now);
-    now = pictured(now);
-    now = watched(now);
-    now = controlled(now);
-    now = unconfigured(now);
-    say_picture(now);
+    now = opened(&rt, now, false)?;
+    now = opened(&rt, now, false)?;
+    now = woken(&rt, now)?;
+    now = configured(&rt, now)?;
+    now = replies(&rt, now)?;
+    now = no_replies(&rt, now)?;
+    now = refused(&rt, now)?;
+    now = reported(&rt, now)?;
+    now = pictured(&rt, now)?;
+    now = watched(&rt, now)?;
+    now = controlled(&rt, now)?;
+    now = unconfigured(&rt, now)?;
+    say_picture(&rt, now)
 }
