@@ -1,16 +1,16 @@
 // A log that is read in portions, and played; its lines go to a writer.
 #![tactic(auto)]
 
-ghost use Rattle.std.specs.Prelude.{◌≤◌, ◌≡◌, ◌^◌, ◌<◌, length, take, IfOk, OnOk, OnErr, IfSome};
+ghost use Rattle.std.specs.Prelude.{◌≤◌, ◌<◌, ◌≡◌, ◌^◌, ◌⊎◌, true, length, take, IfOk, OnOk, IfSome};
 ghost use Rattle.std.specs.Io.{ReadsAtMost};
-ghost use Rattle.std.specs.Io.KnownBytes.{Appends, Consumes, IsAtEnd, Keeps};
+ghost use Rattle.std.specs.Io.KnownBytes.{Appends, Consumes, IsAtEnd};
 ghost use Rattle.playback.specs.Replay.{replay_text};
 ghost use Rattle.session_log.specs.Session.{fed};
 ghost use Rattle.player.specs.Player.{session_of};
 
 use player::Player;
 use std::io;
-use std::io::{ErrorKind, Read, Write};
+use std::io::{Read, Write};
 
 // Plays a portion. The lines are written out each time that the buffer has no room for one more.
 fn play_portion<W: Write>(
@@ -38,50 +38,17 @@ fn play_portion<W: Write>(
     Ok(player)
 }
 
-// Reads once; a read that a signal cut short is tried again.
-fn read_some<R: Read>(log: &mut R, buffer: &mut [u8]) -> io::Result<usize>
-    ensures bound { ReadsAtMost result buffer.new }
-    ensures bytes { IfOk result (λ n. Consumes (R.remaining log.old) (R.remaining log.new) (take n buffer.new)) }
-    ensures end { IfOk result (λ n. n ≡ 0 → 0 < length buffer.old → IsAtEnd (R.remaining log.new)) }
-{
-    for _ in 0..u64::MAX {
-        match log.read(buffer) {
-            Ok(n) => return Ok(n),
-            Err(e) => {
-                if e.kind() != ErrorKind::Interrupted {
-                    return Err(e);
-                }
-            }
-        }
-    }
-    Err(io::Error::from(ErrorKind::Interrupted))
-}
-
-// Reads until the portion is full or the log ends.
-fn read_full<R: Read>(log: &mut R, portion: &mut [u8]) -> io::Result<usize>
-    ensures bound { ReadsAtMost result portion.new }
-    ensures bytes { IfOk result (λ n. Consumes (R.remaining log.old) (R.remaining log.new) (take n portion.new)) }
-    ensures end { IfOk result (λ n. n ≡ 0 → 0 < length portion.old → IsAtEnd (R.remaining log.new)) }
-{
-    let mut done = 0;
-    while done < portion.len() {
-        let n = read_some(log, &mut portion[done..])?;
-        if n == 0 {
-            break;
-        }
-        done += n;
-    }
-    Ok(done)
-}
-
 // How many bytes of the next portion there are; none after an unknown kind.
 fn read_portion<R: Read>(log: &mut R, portion: &mut [u8], ended: bool) -> io::Result<usize>
-    ensures { ReadsAtMost result portion.new }
+    ensures bound { ReadsAtMost result portion.new }
+    ensures len { length portion.new ≡ length portion.old }
+    ensures bytes { IfOk result (λ n. Consumes (R.remaining log.old) (R.remaining log.new) (take n portion.new)) }
+    ensures end { IfOk result (λ n. n ≡ 0 → 0 < length portion.old → ended ≡ true ⊎ IsAtEnd (R.remaining log.new)) }
 {
     if ended {
         return Ok(0);
     }
-    read_full(log, portion)
+    blocks::fill(log, portion)
 }
 
 // Plays what is read, in portions as long as the one buffer, and the lines by way of the other.
@@ -92,6 +59,8 @@ pub fn play<R: Read, W: Write>(
     lines: &mut W,
 ) -> io::Result<()>
     ensures out_len { length out.new ≡ length out.old }
+    ensures lines { OnOk result (0 < length portion.old → 29 ≤ length out.old → IfSome (R.remaining log.old) (λ bytes. length bytes < 2 ^ 64
+        → Appends (W.contents lines.old) (W.contents lines.new) (replay_text bytes))) }
 {
     let mut player = Player::fresh();
     // at most 2^64 - 1 portions: with 65,536 bytes each, 2^80 bytes
