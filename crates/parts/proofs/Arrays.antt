@@ -5,12 +5,8 @@ use mathlib.Core.Bool.{true, false}
 use mathlib.Core.List.{List}
 use mathlib.Core.Path.{◌≡◌, ap}
 use lib.ListN.{get_or, set}
-use denote.Laws.{Is}
-use mir.Val.{Val}
 use Rattle.entry.specs.declared.Entry.{Entry}
 use Rattle.inbox.proofs.Arrays.{Long, has_room, left_out, store_long, stored}
-use Rattle.lists.specs.Elements.{unmapped}
-use Rattle.parts.specs.contracts.Parts as the
 use Rattle.parts.specs.Parts.{with_changed, state_of}
 use Rattle.parts.specs.declared.Parts.{Parts}
 use Rattle.rules.specs.Deliver.{deliver}
@@ -18,10 +14,6 @@ use Rattle.rules.specs.State.{with_inboxes}
 
 abbrev pub LongParts : Parts → Type 0
 LongParts p = Long p.entries p.counts
-
--- owning the parts tells so
-pub parts_long : (p : Parts) (vs : List Val) → Is the.the_row p vs → LongParts p
-parts_long p vs q = record { entries = unmapped _ p.entries 128 q.1.1.1.1.1.1.1.1.1.1.1.1.1.1.0.1.0.1; counts = unmapped _ p.counts 8 q.1.1.0.1.0.1 }
 
 -- the parts with other arrays of the inboxes alone; with another active address and another clock alone
 abbrev pub with_arrays : Parts → List Entry → List ℕ → Parts

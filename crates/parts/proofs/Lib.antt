@@ -1,3 +1,2 @@
 pub mod Arrays
-pub mod Lengths
 pub mod Outcomes

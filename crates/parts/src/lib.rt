@@ -48,6 +48,7 @@ pub struct Done {
 }
 
 // One check of several, in their order: its number, or what the later ones say.
+#[tactic(auto, unfolding(rules::specs::Call::check))]
 pub fn check(refused: bool, errno: u32, later: u32) -> u32
     ensures { result ≡ check refused errno later }
 {

@@ -2,4 +2,3 @@ pub mod Operations
 pub mod Positions
 pub mod Queued
 pub mod RingAnswers
-pub mod Slots

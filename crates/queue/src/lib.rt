@@ -45,6 +45,7 @@ impl Queue {
         ring::clear(self)
     }
 
+    #[tactic(auto, using(crate::proofs::Queued::length_queue))]
     pub fn count(self) -> usize
         ensures value { result ≡ length (queue_of self) }
         ensures upper_bound { result ≤ 18 }
@@ -53,6 +54,7 @@ impl Queue {
     }
 
     // One more at the end; a full queue stays.
+    #[tactic(auto, using(crate::proofs::Queued::put_ring))]
     pub fn put(self, transmission: Transmission) -> Queue
         ensures { queue_of result ≡ put 18 (queue_of self) transmission }
     {
@@ -77,6 +79,7 @@ impl Queue {
         self.slots[at]
     }
 
+    #[tactic(auto, using(crate::proofs::Queued::take_ring))]
     pub fn without_head(self) -> Queue
         ensures { queue_of result ≡ drop 1 (queue_of self) }
     {
@@ -123,6 +126,7 @@ impl Queue {
     }
 
     // What a close of the handle leaves.
+    #[tactic(auto, using(crate::proofs::Queued::close_ring))]
     pub fn orphaned(self, handle: u8) -> Queue
         ensures { queue_of result ≡ map (orphaned handle) (queue_of self) }
     {

@@ -1,15 +1,10 @@
 -- Texts in a lent buffer, one after the other.
 -- Assumes nothing.
-use Prim.Native.Nat.{ℕ, ◌+◌, ◌≤◌, ◌<◌}
-use mathlib.Core.List.{List, [], ◌∷◌, ◌++◌, append_assoc, append-nil}
-use mathlib.Core.Path.{◌≡◌, refl, sym, ap, ◌∙◌}
-use native.Mathlib.Numerals.{add-one}
-use native.Mathlib.Omega.{arith}
-use lib.ListN.{length, take, drop, set, get_or, length-append, length-take, length-drop, take-append-drop}
-use lib.Seq.{set_split, take-suc, take_at, drop_at, drop-drop}
+use Rattle.std.proofs.Common.{ℕ, ◌+◌, ◌≤◌, ◌<◌, List, [], ◌∷◌, ◌++◌, append_assoc, ◌≡◌, refl, sym, ap, ◌∙◌, arith, length, take, drop, slice_set as set, get_or, length-append, length-drop, add-one, take-suc}
+use Rattle.std.proofs.lemmas.List.{append-nil, length-take, take-append-drop, set_split, take_at, drop_at, drop-drop}
 use Rattle.session_log.specs.Text.{decimal, blanked, line_of}
 use Rattle.text.proofs.Digits.{decimal_one}
-use Rattle.text.specs.Line.{PutAt, LineAt, RoomAt}
+use Rattle.text.specs.Line.{PutAt, LineAt}
 
 pub stored : (out : List ℕ) (at b : ℕ) → at < length out → PutAt out at (b ∷ []) (at + 1) (set out at b)
 stored out at b h = record { place = refl; room = omega arith; bytes = rw (add-one at) (set_split out at b h) }
@@ -45,28 +40,14 @@ put_none out at h = record { place = omega arith; room = h; bytes = sym (take-ap
 pub spelt : {out : List ℕ} {at : ℕ} {text text' : List ℕ} {end : ℕ} {out' : List ℕ} → text ≡ text' → PutAt out at text end out' → PutAt out at text' end out'
 spelt e p = rw (← e) p
 
--- a buffer that has no room for the longest line, and one that has
-pub no_line : {out : List ℕ} {at : ℕ} {text : List ℕ} → length out < at + 29 → LineAt out at text at out
-no_line h = record { fits = λ f. absurd (omega arith); short = λ _. (refl, refl) }
-
+-- a buffer that has room for the longest line
 pub a_line : {out : List ℕ} {at : ℕ} {text : List ℕ} {end : ℕ} {out' : List ℕ} → at + 29 ≤ length out → PutAt out at text end out' → LineAt out at text end out'
 a_line h p = record { fits = λ _. p; short = λ s. absurd (omega arith) }
 
--- a buffer that has no room for so many bytes, and one that has
-pub no_room : {most : ℕ} {out : List ℕ} {at : ℕ} {text : List ℕ} → length out < at + most → RoomAt most out at text at out
-no_room h = record { fits = λ f. absurd (omega arith); short = λ _. (refl, refl) }
-
-pub in_room : {most : ℕ} {out : List ℕ} {at : ℕ} {text : List ℕ} {end : ℕ} {out' : List ℕ}
-    → at + most ≤ length out → PutAt out at text end out' → RoomAt most out at text end out'
-in_room h p = record { fits = λ _. p; short = λ s. absurd (omega arith) }
-
 -- the texts that the functions put one after the other
-module _ {out : List ℕ} {at mid : ℕ} {out' : List ℕ} (n k : ℕ) (p : PutAt out at (32 ∷ []) mid out') (h : length (decimal n) ≤ k) where
-  pub number_room : at + (1 + k) ≤ length out → mid + length (decimal n) ≤ length out'
-  number_room r = omega (arith, p.place, put_long p)
-
-  pub number_put : {end : ℕ} {out'' : List ℕ} → PutAt out' mid (decimal n) end out'' → PutAt out at (blanked (n ∷ [])) end out'' × (end ≤ at + (1 + k))
-  number_put q = (spelt (rw (append-nil (decimal n))) (joined p q), omega (arith, p.place, q.place))
+pub number_put : {out : List ℕ} {at mid : ℕ} {out' : List ℕ} {end : ℕ} {out'' : List ℕ} (n : ℕ)
+    → PutAt out at (32 ∷ []) mid out' → PutAt out' mid (decimal n) end out'' → PutAt out at (blanked (n ∷ [])) end out''
+number_put n p q = spelt (rw (append-nil (decimal n))) (joined p q)
 
 spaced : (a b c d : List ℕ) → ((a ++ (32 ∷ b)) ++ (32 ∷ c)) ++ (32 ∷ d) ≡ a ++ (32 ∷ (b ++ (32 ∷ (c ++ (32 ∷ d)))))
 spaced a b c d = simp append_assoc

@@ -40,6 +40,7 @@ fn decimal(out: &mut [u8], at: usize, n: u64) -> usize
 }
 
 // A blank and a number, by its width: at most 20, 10 or 3 digits.
+#[tactic(auto, using(crate::proofs::Digits::decimal_64))]
 fn number(out: &mut [u8], at: usize, n: u64) -> usize
     requires { at + 21 ≤ length out.old }
     ensures put_at { PutAt out.old at (blanked (n ∷ [])) result out.new }
@@ -49,6 +50,7 @@ fn number(out: &mut [u8], at: usize, n: u64) -> usize
     decimal(out, next, n)
 }
 
+#[tactic(auto, using(crate::proofs::Digits::decimal_32))]
 fn number_32(out: &mut [u8], at: usize, n: u32) -> usize
     requires { at + 11 ≤ length out.old }
     ensures put_at { PutAt out.old at (blanked (n ∷ [])) result out.new }
@@ -58,6 +60,7 @@ fn number_32(out: &mut [u8], at: usize, n: u32) -> usize
     decimal(out, next, n as u64)
 }
 
+#[tactic(auto, using(crate::proofs::Digits::decimal_8))]
 fn number_8(out: &mut [u8], at: usize, n: u8) -> usize
     requires { at + 4 ≤ length out.old }
     ensures put_at { PutAt out.old at (blanked (n ∷ [])) result out.new }
@@ -84,6 +87,7 @@ fn numbers(out: &mut [u8], at: usize, entry: Entry) -> usize
 
 // The line of a record: its kind, and what the answer says. The test of the room is written as in the loop of `Player::feed`,
 // so that it is made once there.
+#[tactic(auto, using(crate::proofs::Digits::decimal_8))]
 pub fn answer_line(out: &mut [u8], at: usize, kind: u8, said: Said) -> usize
     ensures { LineAt out.old at (line_of kind (said_of said)) result out.new }
 {
@@ -163,6 +167,7 @@ pub fn word(out: &mut [u8], at: usize, word: &[u8]) -> usize
 }
 
 // A number, as it stands first on a line, if the longest fits.
+#[tactic(auto, using(crate::proofs::Digits::decimal_most))]
 pub fn first_value(out: &mut [u8], at: usize, n: u64) -> usize
     ensures { RoomAt 20 out.old at (decimal n) result out.new }
 {
