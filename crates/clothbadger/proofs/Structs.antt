@@ -6,7 +6,7 @@ use mathlib.Core.List.{List, [], ◌∷◌}
 use mathlib.Core.Path.{◌≡◌, refl}
 use denote.Struct.Record.{Record}
 use denote.Struct.Values.{Values}
-use mir.Syntax.{Ty, ty_int, ty_bool, ty_float, ty_ptr, ty_ref, ty_array, ty_unit, ty_struct, ty_enum, ty_named, Tys, tnil, tcons}
+use mir.Syntax.{Ty, ty_int, ty_bool, ty_float, ty_ptr, ty_ref, ty_array, ty_unit, ty_struct, ty_enum, ty_named, ty_param, ty_const, ty_array_p, Tys, tnil, tcons}
 use prog.Memory.{size, align, up}
 use Rattle.adapter.proofs.Adapter.TheLaws as Adapter'
 use Rattle.adapter.specs.contracts.Done as Done
@@ -52,7 +52,10 @@ offsets (ty_array τ n) = []
 offsets ty_unit = []
 offsets (ty_struct ν τs) = offsets_from 0 τs
 offsets (ty_enum ν τss) = []
-offsets (ty_named ν) = []
+offsets (ty_named ν τs) = []
+offsets (ty_param i) = []
+offsets (ty_const n) = []
+offsets (ty_array_p τ n) = []
 
 abbrev HasLayout : (s : Record) → Ty → (s.D → Values s.parts) → List ℕ → ℕ → ℕ → Type 0
 HasLayout s τ fields at bytes aligned = ((d : s.D) → s.as_values d ≡ fields d) × ((offsets τ ≡ at) × ((size τ ≡ bytes) × (align τ ≡ aligned)))

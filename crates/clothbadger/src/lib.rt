@@ -2,8 +2,9 @@
 #![tactic(auto)]
 
 ghost use Rattle.std.specs.Prelude.{◌≢◌, ◌≡◌};
+ghost use denote.Param.{layout};
 ghost use prog.Memory.{size};
-ghost use Rattle.adapter.proofs.Adapter.TheLaws as adapter-laws;
+ghost use Rattle.adapter.specs.contracts.Adapter.{the_row as adapter_row};
 ghost use Rattle.adapter.specs.Adapter.{state_of, done_of, opened_of, transmitted_of, received_of, started_of, active_of, refused_call, refused_open, refused_transmit, refused_receive, refused_bus_start};
 ghost use Rattle.listing.specs.Rows.{Lists};
 ghost use Rattle.message.specs.Rule.{reply_rule};
@@ -33,7 +34,7 @@ pub extern "C" fn cec_adapter_new(can_transmit: bool, can_monitor_all: bool) -> 
 // How many bytes an adapter has in memory.
 #[unsafe(no_mangle)]
 pub extern "C" fn cec_adapter_size() -> usize
-    ensures { result ≡ size adapter-laws.mir }
+    ensures { result ≡ size (layout adapter_row) }
 {
     8744
 }

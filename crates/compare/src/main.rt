@@ -1,34 +1,26 @@
 // Compares two recorded sessions: `compare LEFT RIGHT`.
 #![tactic(auto)]
 
-use libc::STDERR_FILENO;
+use std::io::Read;
+use std::{env, fs, io};
 
-fn compare(left: i32, right: i32) {
-    let mut first = io::large_buffer();
-    let mut second = io::large_buffer();
-    file_comparison::show(left, right, &mut first, &mut second);
+fn compare<L: Read, R: Read>(rt: &impl Print, left: &mut L, right: &mut R) -> io::Result<()> {
+    let mut first = [0u8; 65536];
+    let mut second = [0u8; 65536];
+    file_comparison::show(left, right, &mut first, &mut second, &mut io::writer(rt))
 }
 
-fn main() {
-    if os::arg_count() < 3 {
-        io::write_all(STDERR_FILENO, b"usage: compare LEFT RIGHT\n");
-        return;
+fn main(rt: HostRuntime) -> io::Result<()> {
+    let mut args = env::args(&rt)?.skip(1);
+    let (Some(first), Some(second)) = (args.next(), args.next()) else {
+        return eprintln!(rt; "usage: compare LEFT RIGHT");
+    };
+    let mut left = match fs::open(&rt, first.as_str()) {
+        Ok(left) => left,
+        Err(error) => return eprintln!(rt; "{first}: {error}"),
+    };
+    match fs::open(&rt, second.as_str()) {
+        Ok(mut right) => compare(&rt, &mut left, &mut right),
+        Err(error) => eprintln!(rt; "{second}: {error}"),
     }
-    let mut path = io::buffer();
-    let n = os::arg(1, &mut path);
-    let left = os::open_read(&path[..n]);
-    if left < 0 {
-        os::fail(&path[..n]);
-        return;
-    }
-    let n = os::arg(2, &mut path);
-    let right = os::open_read(&path[..n]);
-    if right < 0 {
-        os::fail(&path[..n]);
-        libc::close(left);
-        return;
-    }
-    compare(left, right);
-    libc::close(left);
-    libc::close(right);
 }

@@ -1,43 +1,41 @@
 // Compares recorded sessions in pairs, each in small portions: `compare_pairs LEFT RIGHT LEFT RIGHT ..`.
 #![tactic(auto)]
 
+use std::fs::File;
+use std::io::Read;
+use std::rt::Files;
+use std::{env, fs, io};
 
-// Opens the file that an argument names; says so if that fails.
-fn open(i: usize) -> i32 {
-    let mut path = io::buffer();
-    let n = os::arg(i, &mut path);
-    let fd = os::open_read(&path[..n]);
-    if fd < 0 {
-        os::fail(&path[..n]);
+// Opens a file; says so if that fails.
+fn opened<R: Files + Eprint>(rt: &R, path: &str) -> io::Result<Option<R::File>> {
+    match fs::open(rt, path) {
+        Ok(file) => Ok(Some(file)),
+        Err(error) => {
+            eprintln!(rt; "{path}: {error}")?;
+            Ok(None)
+        }
     }
-    fd
 }
 
-fn compare(left: i32, right: i32) {
+fn compare<L: Read, R: Read>(rt: &impl Print, left: &mut L, right: &mut R) -> io::Result<()> {
     let mut first = [0u8; 7];
     let mut second = [0u8; 31];
-    file_comparison::show(left, right, &mut first, &mut second);
+    file_comparison::show(left, right, &mut first, &mut second, &mut io::writer(rt))
 }
 
-fn pair(i: usize, next: usize) {
-    let left = open(i);
-    let right = open(next);
-    if (0 <= left) & (0 <= right) {
-        compare(left, right);
+fn pair<R: Files + Print + Eprint>(rt: &R, first: &str, second: &str) -> io::Result<()> {
+    let left = opened(rt, first)?;
+    let right = opened(rt, second)?;
+    if let (Some(mut left), Some(mut right)) = (left, right) {
+        compare(rt, &mut left, &mut right)?;
     }
-    libc::close(left);
-    libc::close(right);
+    Ok(())
 }
 
-fn main() {
-    let count = os::arg_count();
-    if count == 0 {
-        return;
+fn main(rt: HostRuntime) -> io::Result<()> {
+    let mut paths = env::args(&rt)?.skip(1);
+    while let (Some(first), Some(second)) = (paths.next(), paths.next()) {
+        pair(&rt, first.as_str(), second.as_str())?;
     }
-    let last = count - 1;
-    let mut i = 1;
-    while i < last {
-        pair(i, i + 1);
-        i += 2;
-    }
+    Ok(())
 }

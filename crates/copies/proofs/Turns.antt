@@ -13,8 +13,11 @@ use borrow.Author.Tests.{eq-eqb, ne_eqb}
 use Rattle.copies.specs.Kinds.{gets_copies, NOBODY}
 use Rattle.entry.specs.declared.Entry.{Entry}
 use Rattle.handle.specs.declared.Handle.{Handle}
+use Rattle.handles.specs.declared.Handles.{Handles}
 use Rattle.lists.specs.Sums.{any, any_append}
 use Rattle.lists.specs.Tests.{and-false, neither, or-false}
+use Rattle.parts.specs.Parts.{with_changed}
+use Rattle.parts.specs.declared.Parts.{Parts}
 use Rattle.rules.specs.Deliver.{copies, copy_to, deliver, each, handle_numbers, loses, copy_to_by, copies_by}
 use Rattle.rules.specs.Derived.{room_taken}
 use Rattle.rules.specs.Handles.{handle_at, in_role}
@@ -76,3 +79,10 @@ each_none p e s c n (h ∷ hs) = rw (any_one p s.handles h closed_handle c n) (e
 pub copies_none : (p : Handle → Bool) (e : Entry) (s : State) → p closed_handle ≡ false → any p s.handles ≡ false → s ≡ copies p e s
 unfolding copies_by
 copies_none p e s c n = each_none p e s c n handle_numbers
+
+-- the parts with what copies change
+abbrev pub copied : Parts → Handles → List ℕ → List Entry → Parts
+copied p handles counts entries = with_changed p handles counts entries p.active p.clock
+
+pub alike : (p : Parts) (hs hs' : Handles) (cs cs' : List ℕ) (es es' : List Entry) → es ≡ es' → cs ≡ cs' → hs ≡ hs' → copied p hs cs es ≡ copied p hs' cs' es'
+alike p hs hs' cs cs' es es' x y z = rw (x, y, z)

@@ -1,6 +1,6 @@
 -- What the core has to say to a message, by its opcode and the version alone (document 01, "A message from the wire": "Core answers"; document 02, W-203).
 -- Assumes nothing.
-use Rattle.core_answers.specs.Prelude.{ℕ, false, cond, List, length, ◌==◌}
+use Rattle.std.specs.Prelude.{ℕ, false, cond, List, length, ◌==◌}
 use Rattle.constants.specs.Kernel.{CEC-MSG-REPORT-PHYSICAL-ADDR, CEC-OP-CEC-VERSION-2-0}
 use Rattle.core_answers.specs.declared.Work.{Work}
 use Rattle.message.specs.Message.{message, initiator, destination, opcode}

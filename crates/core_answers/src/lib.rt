@@ -1,7 +1,7 @@
 // What the core answers to a message, byte for byte.
 #![tactic(auto)]
 
-ghost use Rattle.core_answers.specs.Prelude.{◌≡◌, true, false};
+ghost use Rattle.std.specs.Prelude.{◌≡◌, true, false};
 ghost use Rattle.core_answers.specs.Work.{message_of, abort_of, features_work, work_of};
 ghost use Rattle.constants.specs.Kernel.{CEC-LOG-ADDR-BROADCAST};
 ghost use Rattle.message.specs.Message.{initiator, destination};
@@ -41,6 +41,7 @@ fn to_all(asked: Message) -> u8
 }
 
 // The Feature Abort of a message, for a reason.
+#[tactic(auto, unfolding(message::specs::Message::message))]
 pub fn feature_abort(asked: Message, reason: u8) -> Message
     ensures { result ≡ message_of (abort_of asked reason) }
 {
@@ -52,6 +53,7 @@ pub fn feature_abort(asked: Message, reason: u8) -> Message
     Message::new(4, bytes)
 }
 
+#[tactic(auto, unfolding(message::specs::Message::message))]
 fn version_answer(settings: Settings, asked: Message) -> Message
     ensures { result ≡ message_of (version_answer settings (destination asked.bytes) (initiator asked.bytes)) }
 {
@@ -62,6 +64,7 @@ fn version_answer(settings: Settings, asked: Message) -> Message
     Message::new(3, bytes)
 }
 
+#[tactic(auto, unfolding(message::specs::Message::message))]
 fn vendor_answer(settings: Settings, asked: Message) -> Message
     ensures { result ≡ message_of (vendor_answer settings (destination asked.bytes)) }
 {
@@ -75,6 +78,7 @@ fn vendor_answer(settings: Settings, asked: Message) -> Message
     Message::new(5, bytes)
 }
 
+#[tactic(auto, unfolding(message::specs::Message::message))]
 fn address_answer(settings: Settings, asked: Message) -> Message
     ensures { result ≡ message_of (address_answer settings (destination asked.bytes)) }
 {
@@ -116,6 +120,7 @@ fn name_answer(settings: Settings, asked: Message) -> Message
     )
 }
 
+#[tactic(auto, unfolding(message::specs::Message::message))]
 fn features_answer(settings: Settings, asked: Message) -> Message
     ensures { result ≡ message_of (features_answer settings (destination asked.bytes)) }
 {

@@ -1,10 +1,11 @@
-// Two logs that are read from files in portions, and compared.
+// Two logs that are read in portions, and compared.
 #![tactic(auto)]
 
-ghost use Rattle.std.specs.Prelude.{◌≤◌, ◌≡◌, length};
+ghost use Rattle.std.specs.Prelude.{◌≤◌, ◌≡◌, length, IfOk};
 
 use comparer::{Comparer, Comparison};
-use libc::STDOUT_FILENO;
+use std::io;
+use std::io::{Read, Write};
 
 // What a buffer holds of a log: from one place up to another.
 #[repr(C)]
@@ -15,20 +16,18 @@ struct Window {
 }
 
 // Fills the buffer of a log that wants bytes, where all that it held was taken.
-fn fill(fd: i32, buffer: &mut [u8], window: Window, wanted: bool) -> Window
+fn fill<R: Read>(log: &mut R, buffer: &mut [u8], window: Window, wanted: bool) -> io::Result<Window>
     requires at_le_end { window.at ≤ window.end }
     requires end_in_bounds { window.end ≤ length buffer.old }
-    ensures at_le_end_2 { result.at ≤ result.end }
-    ensures end_in_bounds_2 { result.end ≤ length buffer.new }
+    ensures at_le_end_2 { IfOk result (λ next. next.at ≤ next.end) }
+    ensures end_in_bounds_2 { IfOk result (λ next. next.end ≤ length buffer.new) }
     ensures buffer_len_unchanged { length buffer.new ≡ length buffer.old }
 {
     if !wanted | (window.at < window.end) {
-        return window;
+        return Ok(window);
     }
-    Window {
-        at: 0,
-        end: io::read_full(fd, buffer),
-    }
+    let end = blocks::fill(log, buffer)?;
+    Ok(Window { at: 0, end })
 }
 
 // Nothing more comes of a log that wants bytes, where none were read.
@@ -78,7 +77,12 @@ fn turn(comparer: Comparer, left: &[u8], first: Window, right: &[u8], second: Wi
 }
 
 // Compares what is read, in portions as long as the buffers, which hold a byte at least.
-pub fn compare(left_fd: i32, right_fd: i32, left: &mut [u8], right: &mut [u8]) -> Comparison
+pub fn compare<L: Read, R: Read>(
+    left_log: &mut L,
+    right_log: &mut R,
+    left: &mut [u8],
+    right: &mut [u8],
+) -> io::Result<Comparison>
     ensures left_len_unchanged { length left.new ≡ length left.old }
     ensures right_len_unchanged { length right.new ≡ length right.old }
 {
@@ -88,8 +92,8 @@ pub fn compare(left_fd: i32, right_fd: i32, left: &mut [u8], right: &mut [u8]) -
     // at most 2^64 - 1 turns, of which each takes a byte at least or ends a log
     let mut turns: u64 = 18446744073709551615;
     while 0 < turns && (comparer.wants(false) | comparer.wants(true)) {
-        first = fill(left_fd, left, first, comparer.wants(false));
-        second = fill(right_fd, right, second, comparer.wants(true));
+        first = fill(left_log, left, first, comparer.wants(false))?;
+        second = fill(right_log, right, second, comparer.wants(true))?;
         comparer = closed(comparer, false, first);
         comparer = closed(comparer, true, second);
         let made = turn(comparer, left, first, right, second);
@@ -98,16 +102,22 @@ pub fn compare(left_fd: i32, right_fd: i32, left: &mut [u8], right: &mut [u8]) -
         second = made.right;
         turns -= 1;
     }
-    comparer.answer()
+    Ok(comparer.answer())
 }
 
-// Compares what is read, and prints the answer.
-pub fn show(left_fd: i32, right_fd: i32, left: &mut [u8], right: &mut [u8])
+// Compares what is read, and writes the answer.
+pub fn show<L: Read, R: Read, W: Write>(
+    left_log: &mut L,
+    right_log: &mut R,
+    left: &mut [u8],
+    right: &mut [u8],
+    lines: &mut W,
+) -> io::Result<()>
     ensures left_len_unchanged { length left.new ≡ length left.old }
     ensures right_len_unchanged { length right.new ≡ length right.old }
 {
-    let comparison = compare(left_fd, right_fd, left, right);
+    let comparison = compare(left_log, right_log, left, right)?;
     let mut out = [0u8; 640];
     let n = comparison_text::write(&mut out, comparison);
-    io::write_all(STDOUT_FILENO, &out[..n]);
+    lines.write_all(&out[..n])
 }

@@ -1,17 +1,26 @@
-// A log that is read from a file in portions, and played; its lines go to standard output.
+// A log that is read in portions, and played; its lines go to a writer.
 #![tactic(auto)]
 
-ghost use Rattle.std.specs.Prelude.{◌≤◌, ◌≡◌, length};
-ghost use Rattle.io.specs.Counts.{IsPrefixLen};
+ghost use Rattle.std.specs.Prelude.{◌≤◌, ◌<◌, ◌≡◌, ◌^◌, ◌⊎◌, true, length, take, IfOk, OnOk, IfSome};
+ghost use Rattle.std.specs.Io.{ReadsAtMost};
+ghost use Rattle.std.specs.Io.KnownBytes.{Appends, Consumes, IsAtEnd};
+ghost use Rattle.playback.specs.Replay.{replay_text};
 ghost use Rattle.session_log.specs.Session.{fed};
 ghost use Rattle.player.specs.Player.{session_of};
 
-use libc::STDOUT_FILENO;
 use player::Player;
+use std::io;
+use std::io::{Read, Write};
 
 // Plays a portion. The lines are written out each time that the buffer has no room for one more.
-fn play_portion(player: Player, portion: &[u8], out: &mut [u8]) -> Player
-    ensures result_value { 29 ≤ length out.old → session_of result ≡ (fed (session_of player) portion.now).session }
+fn play_portion<W: Write>(
+    player: Player,
+    portion: &[u8],
+    out: &mut [u8],
+    lines: &mut W,
+) -> io::Result<Player>
+    ensures result_value { IfOk result (λ after. 29 ≤ length out.old → session_of after ≡ (fed (session_of player) portion.now).session) }
+    ensures lines { OnOk result (29 ≤ length out.old → Appends (W.contents lines.old) (W.contents lines.new) (fed (session_of player) portion.now).text) }
     ensures out_len_unchanged { length out.new ≡ length out.old }
 {
     let mut player = player;
@@ -20,39 +29,49 @@ fn play_portion(player: Player, portion: &[u8], out: &mut [u8]) -> Player
         let fed = player.feed(&portion[taken..], out);
         player = fed.player;
         let n = fed.written;
-        io::write_all(STDOUT_FILENO, &out[..n]);
+        lines.write_all(&out[..n])?;
         if fed.taken == 0 {
-            return player;
+            return Ok(player);
         }
         taken += fed.taken;
     }
-    player
+    Ok(player)
 }
 
 // How many bytes of the next portion there are; none after an unknown kind.
-fn read_portion(fd: i32, portion: &mut [u8], ended: bool) -> usize
-    ensures { IsPrefixLen result portion.new }
+fn read_portion<R: Read>(log: &mut R, portion: &mut [u8], ended: bool) -> io::Result<usize>
+    ensures bound { ReadsAtMost result portion.new }
+    ensures len { length portion.new ≡ length portion.old }
+    ensures bytes { IfOk result (λ n. Consumes (R.remaining log.old) (R.remaining log.new) (take n portion.new)) }
+    ensures end { IfOk result (λ n. n ≡ 0 → 0 < length portion.old → ended ≡ true ⊎ IsAtEnd (R.remaining log.new)) }
 {
     if ended {
-        return 0;
+        return Ok(0);
     }
-    io::read_full(fd, portion)
+    blocks::fill(log, portion)
 }
 
 // Plays what is read, in portions as long as the one buffer, and the lines by way of the other.
-pub fn play(fd: i32, portion: &mut [u8], out: &mut [u8])
-    ensures { length out.new ≡ length out.old }
+pub fn play<R: Read, W: Write>(
+    log: &mut R,
+    portion: &mut [u8],
+    out: &mut [u8],
+    lines: &mut W,
+) -> io::Result<()>
+    ensures out_len { length out.new ≡ length out.old }
+    ensures lines { OnOk result (0 < length portion.old → 29 ≤ length out.old → IfSome (R.remaining log.old) (λ bytes. length bytes < 2 ^ 64
+        → Appends (W.contents lines.old) (W.contents lines.new) (replay_text bytes))) }
 {
     let mut player = Player::fresh();
     // at most 2^64 - 1 portions: with 65,536 bytes each, 2^80 bytes
     let mut left: u64 = 18446744073709551615;
-    let mut n = read_portion(fd, portion, false);
+    let mut n = read_portion(log, portion, false)?;
     while 0 < n && 0 < left {
-        player = play_portion(player, &portion[..n], out);
-        n = read_portion(fd, portion, player.ended());
+        player = play_portion(player, &portion[..n], out, lines)?;
+        n = read_portion(log, portion, player.ended())?;
         left -= 1;
     }
     let end = player.finish(out);
     let written = end.written;
-    io::write_all(STDOUT_FILENO, &out[..written]);
+    lines.write_all(&out[..written])
 }

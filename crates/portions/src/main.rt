@@ -3,6 +3,9 @@
 
 ghost use Rattle.std.specs.Prelude.{◌≤◌};
 
+use std::io::Read;
+use std::{env, fs, io};
+
 fn digit(byte: u8) -> usize
     ensures { result ≤ 9 }
 {
@@ -28,25 +31,31 @@ fn number_of(word: &[u8]) -> usize
     n
 }
 
-fn play(fd: i32, size: usize)
-    requires { size ≤ 65536 }
+// The size that a word asks for; one of more than eight bytes asks for none.
+fn size_of_word(word: &str) -> usize
+    ensures { result ≤ 65536 }
 {
-    let mut portion = io::large_buffer();
-    let mut out = [0u8; 64];
-    playback::play(fd, &mut portion[..size], &mut out);
+    if word.len() > 8 {
+        return 0;
+    }
+    number_of(word.as_bytes())
 }
 
-fn main() {
-    let mut word = [0u8; 8];
-    let n = os::arg(2, &mut word);
-    let size = number_of(&word[..n]);
-    let mut path = io::buffer();
-    let length = os::arg(1, &mut path);
-    let fd = os::open_read(&path[..length]);
-    if fd < 0 {
-        os::fail(&path[..length]);
-        return;
+fn play<R: Read>(rt: &impl Print, log: &mut R, size: usize) -> io::Result<()>
+    requires { size ≤ 65536 }
+{
+    let mut portion = [0u8; 65536];
+    let mut out = [0u8; 64];
+    playback::play(log, &mut portion[..size], &mut out, &mut io::writer(rt))
+}
+
+fn main(rt: HostRuntime) -> io::Result<()> {
+    let args: Vec<String> = env::args(&rt)?.collect(rt.alloc())?;
+    let path = args.get(1).map_or("", |arg| arg.as_str());
+    let word = args.get(2).map_or("", |arg| arg.as_str());
+    let size = size_of_word(word);
+    match fs::open(&rt, path) {
+        Ok(mut log) => play(&rt, &mut log, size),
+        Err(error) => eprintln!(rt; "{path}: {error}"),
     }
-    play(fd, size);
-    libc::close(fd);
 }

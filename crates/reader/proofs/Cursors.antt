@@ -1,11 +1,7 @@
--- The kinds and the cursor, from the tests of the code.
+-- The kinds that have no body.
 -- Assumes nothing.
-use Rattle.std.proofs.Common.{◌≡◌, ℕ, zero, suc, ◌<◌, ◌≤◌, Bool, true, false, cond, ◌||◌, leb, ◌≢◌, sym, refl, ◌∙◌, le-ltb, lt-ltb, leb-false, leb-true}
-use Rattle.lists.specs.Tests.{split, neither}
-use Rattle.session_log.specs.Record.{is_kind, body_length}
-use Rattle.reading.specs.Reading.{place_after}
-use Rattle.reader.specs.Cursor.{at_most28, is_bad, next_cursor, call_number}
-use Rattle.reader.specs.declared.Cursor.{Cursor}
+use Rattle.std.proofs.Common.{◌≡◌, ℕ, zero, suc, ◌≢◌, refl}
+use Rattle.session_log.specs.Record.{body_length}
 
 -- the kinds with no body, and the unknown ones
 pub no_body : (k : ℕ) → k ≢ 1 → k ≢ 2 → k ≢ 3 → k ≢ 4 → k ≢ 5 → k ≢ 7 → k ≢ 8 → k ≢ 9 → k ≢ 10 → body_length k ≡ 0
@@ -23,30 +19,3 @@ no_body (suc (suc (suc (suc (suc (suc (suc (suc (suc zero))))))))) n1 n2 n3 n4 n
 no_body (suc (suc (suc (suc (suc (suc (suc (suc (suc (suc zero)))))))))) n1 n2 n3 n4 n5 n7 n8 n9 n10 = absurd (n10 refl)
 no_body (suc (suc (suc (suc (suc (suc (suc (suc (suc (suc (suc zero))))))))))) n1 n2 n3 n4 n5 n7 n8 n9 n10 = refl
 no_body (suc (suc (suc (suc (suc (suc (suc (suc (suc (suc (suc (suc k)))))))))))) n1 n2 n3 n4 n5 n7 n8 n9 n10 = refl
-
-module _ (c : Cursor) (kind count : ℕ) (b : Bool) (n : ℕ) (p : b ≡ is_bad c kind) (q : n ≡ body_length kind) where
-  pub not_called : (b || leb count n) ≡ true → 0 ≡ call_number c kind count
-  unfolding call_number
-  not_called e = split (is_bad c kind)
-      (λ f. rw f)
-      (λ f. let h : count ≤ n = leb-true count n (rw (p, f) at e) in rw (f, le-ltb (body_length kind) count (rw q at h)))
-
-  pub called : (b || leb count n) ≡ false → cond (is_kind kind) kind 11 ≡ call_number c kind count
-  unfolding call_number
-  called e =
-      let m = neither b (leb count n) e in
-      let h : n < count = leb-false count n m.1 in
-      rw (sym p ∙ m.0, lt-ltb (body_length kind) count (rw q at h))
-
-  pub next_bad : b ≡ true → record { count = 0; place = c.place; ended = true } ≡ next_cursor c kind count
-  unfolding next_cursor
-  next_bad e = rw (sym p ∙ e)
-
-  pub next_full : (m place : ℕ) → b ≡ false → n < count → m ≡ at_most28 count → place ≡ place_after c.place m
-      → record { count = 0; place = place; ended = false } ≡ next_cursor c kind count
-  unfolding next_cursor
-  next_full m place e h r s = rw (sym p ∙ e, lt-ltb (body_length kind) count (rw q at h), s, r)
-
-  pub next_held : b ≡ false → count ≤ n → record { count = count; place = c.place; ended = false } ≡ next_cursor c kind count
-  unfolding next_cursor
-  next_held e h = rw (sym p ∙ e, le-ltb (body_length kind) count (rw q at h))

@@ -1,7 +1,7 @@
 -- A turn of reading, from what the calls of the code promise: its bytes and cursor are the turn of the log's reading.
 -- Assumes nothing.
 use Rattle.std.proofs.Common.{◌≡◌, ℕ, ◌+◌, ◌<◌, ◌≤◌, min, true, false, cond, not, ◌&&◌, ◌||◌, eqb, ltb, leb, ◌≢◌, List, [], ◌∷◌, length, take, sym, refl, ap, ◌∙◌, ap₂, arith, length-take, ltb-false, ltb-true, ne_eqb, eqb-true, le-leb, leb-true}
-use borrow.Author.Tests.{eqb-false, lt-leb}
+use Rattle.std.proofs.lemmas.Bool.{eqb-false, lt-leb}
 use Rattle.lists.specs.Elements.{empty_list}
 use Rattle.lists.specs.Tests.{split, both}
 use Rattle.reading.proofs.Gather.{holding, grown_whole, grown_part, turn_ended, turn_gathers}

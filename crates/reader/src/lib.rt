@@ -35,6 +35,7 @@ fn is_kind(kind: u8) -> bool
 }
 
 // How many bytes follow the kind.
+#[tactic(auto, using(crate::proofs::Cursors::no_body), unfolding(session_log::specs::Record::body_length))]
 fn body_length(kind: u8) -> usize
     ensures value { result ≡ body_length kind }
     ensures upper_bound { result ≤ 27 }
@@ -80,6 +81,7 @@ impl Cursor {
     }
 
     // The number of the call to play where so many bytes of a record have come; 0 for none.
+    #[tactic(auto, unfolding(crate::specs::Cursor::call_number))]
     fn call(self, kind: u8, count: usize) -> u8
         ensures value { result ≡ call_number self kind count }
         ensures upper_bound { result ≤ 11 }
@@ -92,6 +94,7 @@ impl Cursor {
         if is_kind(kind) { kind } else { 11 }
     }
 
+    #[tactic(auto, unfolding(crate::specs::Cursor::next_cursor))]
     fn next(self, kind: u8, count: usize) -> Cursor
         ensures { result ≡ next_cursor self kind count }
     {

@@ -1,26 +1,22 @@
 // Plays a recorded session again: the file that is named, or standard input.
 #![tactic(auto)]
 
-use libc::STDIN_FILENO;
+use std::io::Read;
+use std::{env, fs, io};
 
-fn replay(fd: i32) {
-    let mut portion = io::large_buffer();
-    let mut out = io::large_buffer();
-    playback::play(fd, &mut portion, &mut out);
+fn replay<R: Read>(rt: &impl Print, log: &mut R) -> io::Result<()> {
+    let mut portion = [0u8; 65536];
+    let mut out = [0u8; 65536];
+    playback::play(log, &mut portion, &mut out, &mut io::writer(rt))
 }
 
-fn main() {
-    if os::arg_count() < 2 {
-        replay(STDIN_FILENO);
-        return;
+fn main(rt: HostRuntime) -> io::Result<()> {
+    let mut args = env::args(&rt)?;
+    let Some(path) = args.nth(1) else {
+        return replay(&rt, &mut rt.reader());
+    };
+    match fs::open(&rt, path.as_str()) {
+        Ok(mut log) => replay(&rt, &mut log),
+        Err(error) => eprintln!(rt; "{path}: {error}"),
     }
-    let mut path = io::buffer();
-    let n = os::arg(1, &mut path);
-    let fd = os::open_read(&path[..n]);
-    if fd < 0 {
-        os::fail(&path[..n]);
-        return;
-    }
-    replay(fd);
-    libc::close(fd);
 }

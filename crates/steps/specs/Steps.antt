@@ -1,7 +1,7 @@
 -- Which steps are to be done with a message, by the tests of `rules` (document 01, "A message from the wire").
 -- Assumes nothing.
 use Rattle.std.specs.Prelude.{Bool, not, ◌&&◌, ◌||◌, List, nat_le}
-use Rattle.std.specs.declared.Work.{Work}
+use Rattle.core_answers.specs.declared.Work.{Work}
 use Rattle.handle.specs.declared.Handle.{Handle}
 use Rattle.lists.specs.Sums.{any}
 use Rattle.message.specs.Message.{opcode, is_feature_abort}

@@ -52,6 +52,7 @@ fn clears_active(active: u16, message: Message) -> bool
 }
 
 // The active address after a message that is heard.
+#[tactic(auto, unfolding(rules::specs::Tracker::tracked))]
 pub fn tracked(active: u16, message: Message) -> u16
     ensures { result ≡ tracked active message }
 {

@@ -1,9 +1,9 @@
 -- The search for a number, turn by turn, and what is pending as the parts have it.
 -- Assumes nothing.
-use Prim.Native.Nat.{ℕ, zero, suc, ◌+◌, ◌-◌, ◌<◌}
-use mathlib.Core.Bool.{Bool, true, false}
+use Prim.Native.Nat.{ℕ, suc, ◌+◌, ◌-◌, ◌<◌}
+use mathlib.Core.Bool.{Bool, true}
 use mathlib.Core.List.{List, ◌++◌}
-use mathlib.Core.Path.{◌≡◌, refl}
+use mathlib.Core.Path.{◌≡◌}
 use native.Mathlib.Numerals.{add-one}
 use native.Mathlib.Omega.{arith}
 use lib.ListN.{length, length-append}
@@ -17,20 +17,11 @@ pub candidate_next : (last k : ℕ) → candidate (candidate last k) 0 ≡ candi
 candidate_next last k = omega arith
 
 module _ (live : ℕ → Bool) (last : ℕ) where
-  -- a number that is not live is found
-  pub search_stop : (more k : ℕ) → live (candidate last k) ≡ false → first_free live last more k ≡ candidate last k
-  search_stop zero k e = refl
-  search_stop (suc more) k e = rw e
-
   -- a live one is passed
   pub search_on : (tries k : ℕ) → k < tries → live (candidate last k) ≡ true → first_free live last (tries - k) k ≡ first_free live last (tries - (k + 1)) (k + 1)
   search_on tries k h e =
       let q : tries - k ≡ suc (tries - (k + 1)) = omega arith in
       rw (q, e, add-one)
-
-  -- no try is left
-  pub search_end : (more k : ℕ) → more ≡ 0 → first_free live last more k ≡ candidate last k
-  search_end more k e = rw e
 
 -- the search begins with as many tries as there are numbers
 pub search_start : (wire queue : List Transmission) (ws : List Wait) (last w q n : ℕ) → w ≡ length wire → q ≡ length queue → n ≡ length ws
