@@ -47,13 +47,11 @@ fn one_out(mut run: Run) -> Run {
 
 // One in, and then one out where it is asked, so many times.
 fn turns(mut run: Run, many: u32, out: bool) -> Run {
-    let mut i = 0;
-    while i < many {
+    for _ in 0..many {
         run = one_in(run);
         if out {
             run = one_out(run);
         }
-        i += 1;
     }
     run
 }

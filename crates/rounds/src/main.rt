@@ -33,10 +33,8 @@ fn round(adapter: Adapter, ts: u64) -> Adapter {
 
 fn main(rt: HostRuntime) -> io::Result<()> {
     let mut now = Adapter::fresh(true, true).open(false).adapter;
-    let mut i = 0;
-    while i < ROUNDS {
+    for i in 0..ROUNDS {
         now = round(now, i);
-        i += 1;
     }
     println!(rt; "{}", now.transmit(0, poll()).sequence)
 }
