@@ -21,6 +21,7 @@ fn bits_of(mask: u16) -> u32
 }
 
 // A mask of 1 to 4 bits among 0 to 14.
+#[tactic(auto, using(crate::proofs::Bits::mask_counted))]
 fn is_mask(mask: u16) -> bool
     ensures { result ≡ is_mask mask }
 {

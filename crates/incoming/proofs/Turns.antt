@@ -4,7 +4,7 @@ use Rattle.std.proofs.Common.{◌≡◌, ℕ, Bool, true, false, cond, not, ◌&
 use Rattle.constants.specs.Kernel.{CEC-OP-ABORT-UNRECOGNIZED-OP}
 use Rattle.copies.proofs.Turns.{copies_none}
 use Rattle.copies.specs.Kinds.{gets_copies, NOBODY}
-use Rattle.std.specs.Work.{message_of, abort_of}
+use Rattle.core_answers.specs.Work.{message_of, abort_of}
 use Rattle.entry.specs.Entry.{message_copy}
 use Rattle.entry.specs.declared.Entry.{Entry}
 use Rattle.handle.specs.declared.Handle.{Handle}

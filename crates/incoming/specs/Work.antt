@@ -2,7 +2,7 @@
 -- Assumes nothing.
 use Rattle.std.specs.Prelude.{ℕ, Bool, cond, ◌&&◌, ◌||◌, List, ◌==◌}
 use Rattle.constants.specs.Kernel.{CEC-OP-ABORT-UNRECOGNIZED-OP}
-use Rattle.std.specs.Work.{abort_of, message_of, work_of}
+use Rattle.core_answers.specs.Work.{abort_of, message_of, work_of}
 use Rattle.incoming.specs.Steps.{follower_kind, monitor_kind, receivers_of}
 use Rattle.incoming.specs.declared.Arrival.{Arrival}
 use Rattle.incoming.specs.declared.ToDo.{ToDo}

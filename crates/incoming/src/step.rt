@@ -1,7 +1,7 @@
 // Parts of the steps of a message from the wire.
 ghost use Rattle.std.specs.Prelude.{◌≡◌, if◌then◌else◌};
 ghost use Rattle.constants.specs.Kernel.{CEC-OP-ABORT-UNRECOGNIZED-OP};
-ghost use Rattle.std.specs.Work.{message_of, abort_of};
+ghost use Rattle.core_answers.specs.Work.{message_of, abort_of};
 ghost use Rattle.handles.specs.Roles.{handles_of};
 ghost use Rattle.incoming.specs.Steps.{entry_by_rule, noted_at, receivers_of};
 ghost use Rattle.message.specs.Rule.{RULE-NONE};

@@ -1,34 +1,19 @@
 -- What unconfigure ends, from the parts: the wire, the queue and the waits.
 -- Assumes nothing.
-use Prim.Native.Nat.{ℕ, ◌≤◌}
-use mathlib.Core.List.{List, [], ◌∷◌}
-use mathlib.Core.Logic.{◌≢◌}
-use mathlib.Core.Path.{◌≡◌, refl, sym}
-use native.Mathlib.Omega.{arith}
-use lib.ListN.{length}
+use Prim.Native.Nat.{ℕ}
+use mathlib.Core.List.{List, []}
+use mathlib.Core.Path.{◌≡◌, sym}
 use Rattle.constants.specs.Kernel.{CEC-PHYS-ADDR-INVALID}
 use Rattle.unconfigure.specs.Aborted.{transmits_aborted, waits_aborted}
 use Rattle.entry.specs.declared.Entry.{Entry}
-use Rattle.inbox.specs.Inboxes.{delivered}
 use Rattle.rules.proofs.Deliveries.{each_delivers}
 use Rattle.rules.specs.Deliver.{each}
 use Rattle.rules.specs.Owed.{pending}
 use Rattle.rules.specs.State.{State, no_settings, none_noted, with_inboxes, with_queue, with_wire, with_waits, with_settings, with_noted, with_active}
 use Rattle.rules.specs.Unconfigure.{abort_transmit, abort_wait, unset, aborted_result, abort_entry}
 use Rattle.settings.specs.declared.Settings.{Settings}
-use Rattle.transmission.specs.Transmission.{head_of}
 use Rattle.transmission.specs.declared.Transmission.{Transmission}
 use Rattle.wait.specs.declared.Wait.{Wait}
-
--- an idle wire, and one that is taken
-pub aborted_none : (is : List (List Entry)) (ts : List Transmission) → length ts ≡ 0 → is ≡ transmits_aborted is ts
-aborted_none is [] e = refl
-aborted_none is (t ∷ ts) e = absurd (omega arith)
-
-pub aborted_one : (is : List (List Entry)) (ts : List Transmission) → length ts ≢ 0 → length ts ≤ 1 → delivered is (head_of ts).owner (aborted_result (head_of ts)) ≡ transmits_aborted is ts
-aborted_one is [] e h = absurd (e refl)
-aborted_one is (t ∷ []) e h = refl
-aborted_one is (t ∷ (u ∷ ts)) e h = absurd (omega arith)
 
 -- the rule's state, from its parts: the inboxes alone are worked on
 pub unconfigured : (s u : State) (is : List (List Entry)) (queue wire : List Transmission) (waits : List Wait) (settings : Settings) (noted : List ℕ)
