@@ -1,6 +1,6 @@
 /*
  * Clothbadger: a CEC adapter that several programs share, for programs in C.
- * docs/C.md is the guide. Link target/staticlib/libclothbadger.a (rt staticlib clothbadger), x86-64 only.
+ * docs/C.md is the guide. Link crates/clothbadger/out/libclothbadger.a (rt lib in crates/clothbadger), x86-64 only.
  *
  * The caller owes:
  *  - an adapter that came from cec_new() or cec_adapter_new(), and that only these calls changed;

@@ -3,7 +3,7 @@
 -- Assumes nothing.
 use Prim.Native.Nat.{ℕ, zero, suc, ◌+◌, ◌-◌, ◌%◌, ◌≤◌, ◌<◌}
 use mathlib.Core.Bool.{Bool, true, false, cond, ◌&&◌, ◌||◌, not}
-use mathlib.Core.List.{List, [], ◌∷◌, ◌++◌, map, append_assoc, append-nil}
+use mathlib.Core.List.{List, [], ◌∷◌, ◌++◌, map, append-nil}
 use mathlib.Core.Path.{◌≡◌, refl, sym, ap, ap₂, ◌∙◌}
 use native.Mathlib.Nat.{add-zero, zero-add, sub-zero, mod-add-mod}
 use native.Mathlib.Omega.{arith}
@@ -11,16 +11,15 @@ use lib.Dec.{eqb, eqb-suc-zero}
 use lib.ListN.{length, take, drop, length-drop, take-append-drop}
 use lib.Seq.{drop-drop}
 use borrow.Author.Tests.{eqb-true, eqb-false, not-true, not-false}
-use Rattle.comparison.specs.Compare.{meant, same_bytes, Sides, sides, in_kind, in_body, in_end, Verdict, equal, differs, differs_at, first_from, of_kind, kinds, counts_of, Comparison, compared, compare}
-use Rattle.comparison.specs.Comparing.{Progress, going, decided, decided_at, met, alone, counted, tallied, Side, is_waiting, is_done, is_wanted, FedSide, fed_side, Comparing, with_waiting, settled_by, settled, fresh_side, fresh_comparing, side_of, with_side, turned, turn_length, Fed, further, can_take, fed_by, fed, over, verdict_by, answer_of, Move, offer, close, Rest, moved, moved_all, is_read, AnyCutting, NeverStuck, AllTaken}
-use Rattle.comparison.proofs.Compare.{meant_length, same_true, first_kind, first_body, first_on, onward}
+use Rattle.comparison.specs.Compare.{meant, same_bytes, sides, in_kind, in_body, Verdict, first_from, kinds, counts_of, Comparison, compared, compare}
+use Rattle.comparison.specs.Comparing.{Progress, going, decided, decided_at, met, alone, counted, tallied, Side, is_waiting, is_done, is_wanted, FedSide, fed_side, Comparing, with_waiting, settled_by, settled, fresh_side, fresh_comparing, with_side, turned, turn_length, Fed, further, can_take, fed_by, fed, over, verdict_by, answer_of, Move, offer, close, Rest, moved, moved_all, is_read, AnyCutting, NeverStuck, AllTaken}
+use Rattle.comparison.proofs.Compare.{meant_length, same_true, first_kind, first_body, first_on}
 use Rattle.lists.specs.Elements.{empty_list}
 use Rattle.lists.specs.Sums.{count}
 use Rattle.lists.specs.Tests.{bit, split, clash, both, neither, and-false, or-true}
-use Rattle.reading.specs.Reading as reading
-use Rattle.reading.specs.Reading.{Ending, Reading, reading_at, Read, still, joined, read, end_of, Turn, turn, place_after, log_of}
+use Rattle.reading.specs.Reading.{Ending, reading_at, Read, still, joined, read, end_of, turn, place_after, log_of}
 use Rattle.session_log.specs.Record.{kind_of}
-use Rattle.reading.proofs.Reading.{cuts_apart, by_turns, join_assoc, read_ended, reads_log, turn_on, turn_one, turn_within, turn_some}
+use Rattle.reading.proofs.Reading.{read_ended, reads_log, turn_on, turn_one, turn_within, turn_some}
 
 -- the counts of some records and then others
 tallied_append : (cs : List ℕ) (xs ys : List (List ℕ)) → tallied (tallied cs xs) ys ≡ tallied cs (xs ++ ys)

@@ -3,7 +3,7 @@
 -- `proofs/Comparing` shows what is said at the end of this file.
 -- Assumes nothing.
 use Rattle.std.specs.Prelude.{ℕ, zero, suc, ◌+◌, Bool, true, false, cond, ◌&&◌, ◌||◌, not, List, [], ◌∷◌, ◌≡◌, eqb, length, take, drop}
-use Rattle.comparison.specs.Compare.{meant, same_bytes, Sides, sides, What, in_kind, in_body, in_end, Difference, Verdict, equal, differs, first_from, kinds, Comparison, compare}
+use Rattle.comparison.specs.Compare.{meant, same_bytes, sides, What, in_kind, in_body, in_end, Difference, Verdict, differs, first_from, kinds, Comparison, compare}
 use Rattle.reading.specs.Reading.{Reading, reading_at, end_of, turn, place_after}
 use Rattle.session_log.specs.Record.{kind_of}
 

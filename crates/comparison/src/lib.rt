@@ -1,3 +1,2 @@
 // Two recorded sessions compared: definitions and theorems, no code.
 #![tactic(auto)]
-

@@ -9,7 +9,7 @@ use native.Mathlib.Omega.{arith}
 use lib.Dec.{eqb, ltb}
 use lib.ListN.{length, get_or, set, drop, length-set}
 use borrow.Author.Tests.{eqb-true, eqb-false, not-true, not-false, lt-ltb}
-use Rattle.constants.specs.Kernel.{EBADF, EMFILE, EAGAIN, EBUSY, EINVAL, CEC-TX-STATUS-NACK, CEC-PHYS-ADDR-INVALID}
+use Rattle.constants.specs.Kernel.{EBADF, EMFILE, EAGAIN, EBUSY, EINVAL, CEC-TX-STATUS-NACK}
 use Rattle.entry.specs.Entry.{no_entry}
 use Rattle.entry.specs.declared.Counts.{Counts}
 use Rattle.entry.specs.declared.Entry.{Entry}
@@ -35,12 +35,12 @@ use Rattle.rules.proofs.Checks.{passed}
 use Rattle.rules.proofs.SameModes.{SameModes, modes_refl, same_many, same_open}
 use Rattle.rules.specs.BusResult.{do_bus_result, is_final, kept_counts, concluded}
 use Rattle.rules.specs.BusStart.{do_bus_start}
-use Rattle.rules.specs.Call.{Call, Request, Answer, Outcome, finish, unless, refused, done, accepted, received, started, listed, address}
+use Rattle.rules.specs.Call.{Call, Request, Answer, Outcome, finish, unless, refused, done, accepted, received, started}
 use Rattle.rules.specs.Call.{call_open, call_close, call_mode, call_transmit, call_receive, call_bus_start, call_bus_result, call_message, call_time, call_configure, call_unconfigure, call_listing, call_lookup, call_active_address}
 use Rattle.rules.specs.Close.{do_close}
 use Rattle.rules.specs.Configure.{do_configure, kept_settings}
 use Rattle.rules.specs.Handles.{handle_at, is_open}
-use Rattle.rules.specs.Listing.{do_listing, filled_rows}
+use Rattle.rules.specs.Listing.{do_listing}
 use Rattle.rules.specs.Lookup.{do_lookup}
 use Rattle.rules.specs.Mode.{do_mode, in_mode, mode_refusal}
 use Rattle.rules.specs.Number.{next_sequence}

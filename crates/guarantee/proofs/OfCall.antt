@@ -2,7 +2,7 @@
 -- Assumes nothing.
 use Prim.Native.Nat.{ℕ, zero, suc, ◌-◌, ◌<◌}
 use mathlib.Core.Bool.{false}
-use mathlib.Core.List.{List, [], ◌∷◌, ◌++◌}
+use mathlib.Core.List.{List, [], ◌∷◌}
 use mathlib.Core.Path.{◌≡◌, refl, ap}
 use native.Mathlib.Omega.{arith}
 use lib.Dec.{eqb}
@@ -12,7 +12,7 @@ use Rattle.entry.specs.Entry.{no_entry}
 use Rattle.entry.specs.declared.Counts.{Counts}
 use Rattle.entry.specs.declared.Entry.{Entry}
 use Rattle.guarantee.proofs.ByCases.{by_cases}
-use Rattle.guarantee.proofs.Cases.{Cases, Silent, step_from, same_came}
+use Rattle.guarantee.proofs.Cases.{Silent, step_from, same_came}
 use Rattle.guarantee.proofs.Ends.{is_ending}
 use Rattle.guarantee.proofs.EveryEntry.{All, Grows, grows_same, grows_trans, message_grows, concluded_grows, time_grows, unconfigured_grows}
 use Rattle.guarantee.proofs.Invariant.{Inv}

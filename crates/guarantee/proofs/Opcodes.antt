@@ -1,7 +1,7 @@
 -- What the entries in the inboxes show of the reply: each kind shows it, and so does every entry after any calls.
 -- Assumes nothing.
 use Prim.Native.Nat.{ℕ}
-use mathlib.Core.Bool.{true, false}
+use mathlib.Core.Bool.{false}
 use mathlib.Core.Logic.{◌≢◌}
 use mathlib.Core.Path.{◌≡◌, refl}
 use native.Mathlib.Omega.{arith}
@@ -9,7 +9,6 @@ use lib.Dec.{eqb}
 use Rattle.constants.specs.Kernel.{CEC-RX-STATUS-OK, CEC-RX-STATUS-TIMEOUT, CEC-RX-STATUS-ABORTED}
 use Rattle.entry.specs.Entry.{result_entry, rx_entry, matched}
 use Rattle.entry.specs.declared.Counts.{Counts}
-use Rattle.entry.specs.declared.Entry.{Entry}
 use Rattle.guarantee.proofs.EveryEntry.{Kinds, every_entry}
 use Rattle.guarantee.specs.Opcodes.{OpcodeShown, AlwaysShown, ReceivedShown}
 use Rattle.inbox.specs.Inboxes.{oldest}

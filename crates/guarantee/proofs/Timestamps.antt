@@ -9,7 +9,7 @@ use Rattle.constants.specs.Kernel.{CEC-RX-STATUS-OK, CEC-RX-STATUS-TIMEOUT, CEC-
 use Rattle.entry.specs.Entry.{result_entry, rx_entry, matched, message_copy, no_entry}
 use Rattle.entry.specs.declared.Counts.{Counts}
 use Rattle.entry.specs.declared.Entry.{Entry}
-use Rattle.guarantee.proofs.EveryEntry.{Kinds, every_entry}
+use Rattle.guarantee.proofs.EveryEntry.{every_entry}
 use Rattle.guarantee.specs.Timestamps.{TimesShown, AlwaysTimed}
 use Rattle.lists.specs.Tests.{split, clash}
 use Rattle.message.specs.Message.{opcode, is_feature_abort}

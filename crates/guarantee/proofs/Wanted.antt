@@ -27,7 +27,6 @@ use Rattle.lists.specs.Tests.{bit, split, and-false}
 use Rattle.rules.proofs.Mail.{Numbered}
 use Rattle.rules.specs.Call.{Call, Request, Outcome, finish, done}
 use Rattle.rules.specs.Handles.{has_bit}
-use Rattle.rules.specs.Owed.{pending}
 use Rattle.rules.specs.State.{State}
 use Rattle.rules.specs.Step.{Step, step, run}
 use Rattle.transmission.specs.declared.Transmission.{Transmission}

@@ -4,7 +4,7 @@
 ghost use Rattle.std.specs.Prelude.{◌≤◌, ◌<◌, ◌≡◌, ◌^◌, ◌⊎◌, true, length, take, IfOk, OnOk, IfSome};
 ghost use Rattle.std.specs.Io.{ReadsAtMost};
 ghost use Rattle.std.specs.Io.KnownBytes.{Appends, Consumes, IsAtEnd};
-ghost use Rattle.playback.specs.Replay.{replay_text};
+ghost use Rattle.session_log.specs.Log.{printed_of};
 ghost use Rattle.session_log.specs.Session.{fed};
 ghost use Rattle.player.specs.Player.{session_of};
 
@@ -60,7 +60,7 @@ pub fn play<R: Read, W: Write>(
 ) -> io::Result<()>
     ensures out_len { length out.new ≡ length out.old }
     ensures lines { OnOk result (0 < length portion.old → 29 ≤ length out.old → IfSome (R.remaining log.old) (λ bytes. length bytes < 2 ^ 64
-        → Appends (W.contents lines.old) (W.contents lines.new) (replay_text bytes))) }
+        → Appends (W.contents lines.old) (W.contents lines.new) (printed_of bytes))) }
 {
     let mut player = Player::fresh();
     // at most 2^64 - 1 portions: with 65,536 bytes each, 2^80 bytes

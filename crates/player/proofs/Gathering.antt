@@ -78,3 +78,20 @@ copied bytes portion count kind n e l k q =
     let t : take (lacks (take count bytes) portion) portion ≡ take n portion = ap (λ (m : ℕ). take m portion) d ∙ sym (take_taken (suc (body_length kind - count)) n portion q) in
     let w : n ≤ length portion = omega (arith, length-take (suc (body_length kind - count)) portion) in
     (i.0 ∙ ap (λ (l : List ℕ). take count bytes ++ l) t ∙ sym (take-paste bytes count portion n (omega arith) w), i.1 ∙ ap length t ∙ length-take-le n portion w)
+
+-- the code's copy, with no room for a byte, and with some
+pub filled_none : (bytes portion : List ℕ) (m : ℕ) → length bytes ≡ 28 → 1 ≤ length portion → at_most28 m ≡ 28
+    → (gather (take m bytes) portion ≡ take (at_most28 m + 1) bytes) × (gathered (take m bytes) portion ≡ 1)
+filled_none bytes portion m e l h =
+    let u : take m bytes ≡ bytes = sym (take_28 m bytes e) ∙ rw h (take_all 28 bytes (omega arith)) in
+    let g = gather_full bytes portion e l in
+    rw (u, h) (g.0 ∙ sym (take_all 29 bytes (omega arith)), g.1)
+
+pub filled : (bytes portion : List ℕ) (m count kind lack n i : ℕ) (bytes' : List ℕ) → length bytes ≡ 28 → count ≡ at_most28 m → count < 28
+    → kind ≡ kind_of (take count bytes ++ portion) → lack ≡ suc (body_length kind - count) → n ≡ min lack (length portion)
+    → i ≡ n → bytes' ≡ paste bytes count portion i
+    → (gather (take m bytes) portion ≡ take (at_most28 m + n) bytes') × (gathered (take m bytes) portion ≡ n)
+filled bytes portion m count kind lack n i bytes' e h l k d q f p =
+    let t : take count bytes ≡ take m bytes = rw h (take_28 m bytes e) in
+    let long : n ≡ length (take (suc (body_length kind - count)) portion) = q ∙ sym (length-take lack portion) ∙ ap (λ (x : ℕ). length (take x portion)) d in
+    rw (← t, ← h, p, f) (copied bytes portion count kind n e l k long)

@@ -8,19 +8,12 @@ use native.Mathlib.Omega.{arith}
 use lib.Dec.{eqb}
 use lib.ListN.{length, take, length-take}
 use borrow.Author.Tests.{lt-ltb, le-ltb, eqb-true, eqb-false, ne_eqb}
-use denote.Laws.{Is}
-use mir.Val.{Val}
 use Rattle.lists.specs.Tests.{split}
 use Rattle.session_log.specs.Session.{Session, finished}
 use Rattle.session_log.specs.Text.{cut_line}
 use Rattle.player.specs.Player.{session_of, onto, room_errno, last_text}
 use Rattle.player.specs.declared.Player.{Player}
-use Rattle.player.specs.contracts.Player as the
-use Rattle.lists.specs.Elements.{unmapped}
 use Rattle.text.specs.Line.{PutAt}
-
-pub player_long : (p : Player) (vs : List Val) → Is the.the_row p vs → length p.bytes ≡ 28
-player_long p vs q = unmapped _ p.bytes 28 q.1.1.1.0.1.0.1
 
 -- none of 28 bytes is held where the count is 0
 pub none_held : (bytes : List ℕ) (n : ℕ) → length bytes ≡ 28 → eqb (length (take n bytes)) 0 ≡ eqb n 0

@@ -13,8 +13,8 @@ use Rattle.lists.specs.Elements.{empty_list}
 use Rattle.lists.specs.Tests.{split, both}
 use Rattle.lists.specs.Vector.{put}
 use Rattle.reading.specs.Gather.{gather, gathered, turned}
-use Rattle.reading.specs.Reading.{at_end, bad_at, cut_at, Log, ends, with, read_at, log_of, Reading, reading_at, Read, still, unknown, is_whole, grown, next, joined, read, end_of, Turn, is_part, turn, place_after, place_of, ReadsLog, CutsApart, ByTurns}
-use Rattle.session_log.specs.Record.{is_kind, body_length, kind_of}
+use Rattle.reading.specs.Reading.{at_end, bad_at, cut_at, Log, ends, with, read_at, Reading, reading_at, Read, still, unknown, is_whole, grown, next, joined, read, end_of, Turn, is_part, turn, place_after, place_of, ReadsLog, CutsApart, ByTurns}
+use Rattle.session_log.specs.Record.{is_kind, body_length}
 use Rattle.reading.proofs.Gather.{holding, grown_whole, grown_part, next_unknown, next_known, turn_ended, turn_last, turn_more, turn_gathers}
 use Rattle.reading.proofs.Whole.{record_full, record_short}
 

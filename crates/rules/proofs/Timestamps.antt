@@ -1,7 +1,7 @@
 -- The times that entries show, and that accepted times never fall (document 02, W-208).
 -- Assumes nothing.
 use Prim.Native.Nat.{ℕ, ◌≤◌, ◌<◌}
-use mathlib.Core.Bool.{Bool, true, ◌&&◌, not}
+use mathlib.Core.Bool.{Bool, ◌&&◌, not}
 use mathlib.Core.List.{List, [], ◌∷◌, ◌++◌}
 use mathlib.Core.Logic.{◌⊎◌, inl, inr}
 use mathlib.Core.Path.{◌≡◌, refl, ap, ◌∙◌, sym}
@@ -10,7 +10,6 @@ use lib.Dec.{eqb, leb, ltb}
 use lib.ListN.{length}
 use borrow.Author.Tests.{eqb-true, lt-ltb, le-ltb, ltb-false}
 use Rattle.constants.specs.Kernel.{EINVAL}
-use Rattle.entry.specs.declared.Counts.{Counts}
 use Rattle.lists.specs.Tests.{cond_same, split}
 use Rattle.message.specs.Message.{opcode, is_feature_abort}
 use Rattle.message.specs.declared.Message.{Message}

@@ -1,10 +1,10 @@
 -- The active address after any call, and over any list of calls (document 02, W-205).
 -- Assumes nothing.
 use Prim.Native.Nat.{ℕ}
-use mathlib.Core.Bool.{Bool, true, false, cond, ◌&&◌}
+use mathlib.Core.Bool.{Bool, true, cond, ◌&&◌}
 use mathlib.Core.List.{List, [], ◌∷◌}
 use mathlib.Core.Logic.{◌⊎◌, inl, inr}
-use mathlib.Core.Path.{◌≡◌, refl, sym, ap, ◌∙◌}
+use mathlib.Core.Path.{◌≡◌, refl, ap, ◌∙◌}
 use native.Mathlib.Omega.{arith}
 use lib.Dec.{eqb}
 use borrow.Author.Tests.{eqb-true}
@@ -30,7 +30,7 @@ use Rattle.rules.specs.Core.{answers, notes}
 use Rattle.rules.specs.Deliver.{copies, copy_to, copy_to_by, copies_by, each, handle_numbers}
 use Rattle.rules.specs.Derived.{room_taken}
 use Rattle.rules.specs.Handles.{handle_at, in_role, is_monitor, is_configured}
-use Rattle.rules.specs.Incoming.{incoming_refusal, monitors, stops, replied, followed, refused_message, handled, heard_with, heard}
+use Rattle.rules.specs.Incoming.{incoming_refusal, monitors, stops, replied, followed, handled, heard_with, heard}
 use Rattle.rules.specs.Listing.{do_listing}
 use Rattle.rules.specs.Lookup.{do_lookup}
 use Rattle.rules.specs.Mode.{do_mode}

@@ -1,6 +1,6 @@
 -- What the core itself does with a message (document 01, "A message from the wire": "Core answers").
 -- Assumes nothing.
-use Rattle.std.specs.Prelude.{ℕ, ◌+◌, ◌*◌, ◌/◌, ◌%◌, Bool, cond, ◌&&◌, ◌||◌, not, List, [], ◌∷◌, eqb, leb, length, get_or, set, take}
+use Rattle.std.specs.Prelude.{ℕ, ◌+◌, ◌*◌, ◌/◌, ◌%◌, Bool, cond, ◌&&◌, ◌||◌, not, List, [], ◌∷◌, eqb, leb, length, set, take}
 use Rattle.constants.specs.Kernel.{CEC-LOG-ADDR-BROADCAST, CEC-LOG-ADDR-UNREGISTERED, CEC-MSG-FEATURE-ABORT, CEC-MSG-GIVE-OSD-NAME, CEC-MSG-SET-OSD-NAME, CEC-MSG-GIVE-PHYSICAL-ADDR, CEC-MSG-REPORT-PHYSICAL-ADDR, CEC-MSG-DEVICE-VENDOR-ID, CEC-MSG-GIVE-DEVICE-VENDOR-ID, CEC-MSG-CEC-VERSION, CEC-MSG-GET-CEC-VERSION, CEC-MSG-ABORT, CEC-OP-ABORT-REFUSED}
 use Rattle.lists.specs.Vector.{put}
 use Rattle.message.specs.Message.{message, initiator, destination, opcode, address_at}

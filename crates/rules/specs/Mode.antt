@@ -5,7 +5,7 @@ use Rattle.constants.specs.Kernel.{EBADF, EINVAL, EPERM, EBUSY, CEC-MODE-NO-FOLL
 use Rattle.handle.specs.declared.Handle.{Handle}
 use Rattle.rules.specs.Call.{Outcome, finish, unless, check, Answer}
 use Rattle.rules.specs.Derived.{Derived, counted}
-use Rattle.rules.specs.Handles.{handle_at, is_open, initiator_part, follower_part, is_follower, is_monitor, is_exclusive_initiator, is_exclusive_follower, another}
+use Rattle.rules.specs.Handles.{handle_at, is_open, initiator_part, follower_part, is_follower, is_monitor, is_exclusive_initiator, is_exclusive_follower}
 use Rattle.rules.specs.State.{State, with_handles}
 
 -- "The low digit is 0, 1 or 2; the rest is 0x00, 0x10, 0x20, 0x30, 0xE0 or 0xF0."

@@ -15,7 +15,6 @@ use Rattle.rules.specs.Step.{Step, step, run}
 use Rattle.rules.specs.Time.{timeout_entry}
 use Rattle.rules.specs.Unconfigure.{aborted_result, abort_entry}
 use Rattle.transmission.specs.declared.Transmission.{Transmission}
-use Rattle.wait.specs.declared.Wait.{Wait}
 
 -- ---- what each kind of entry shows: the sent time and the received time
 abbrev pub ShowsTimes : ℕ → ℕ → Entry → Type 0

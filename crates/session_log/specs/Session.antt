@@ -4,7 +4,6 @@ use Rattle.std.specs.Prelude.{ℕ, suc, ◌+◌, ◌-◌, ◌%◌, Bool, true, f
 use Rattle.lists.specs.Vector.{put}
 use Rattle.session_log.specs.Record.{is_kind, body_length, record_max, kind_of, call_of}
 use Rattle.session_log.specs.Text.{numbers_of, line_of, bad_line, cut_line, line_max}
-use Rattle.rules.specs.Call.{Outcome}
 use Rattle.rules.specs.State.{State, fresh}
 use Rattle.rules.specs.Step.{step}
 
