@@ -1,13 +1,12 @@
 -- Two records agree where all bytes that are not past a length are the same; how the code finds that out.
 -- Assumes nothing.
-use Rattle.std.proofs.Common.{◌≡◌, ℕ, ◌+◌, ◌<◌, ◌≤◌, Bool, true, false, cond, ◌&&◌, ◌||◌, eqb, ltb, leb, ◌≢◌, List, length, sym, refl, ap, ◌∙◌, ap₂, arith, ext_get_or, ltb-false, ltb-true, le-ltb, lt-ltb, ne_eqb, eqb-true, le-leb, leb-false, leb-true}
+use Rattle.std.proofs.Common.{◌≡◌, ℕ, ◌+◌, ◌<◌, ◌≤◌, Bool, true, false, cond, ◌&&◌, ◌||◌, eqb, ltb, leb, ◌≢◌, List, length, sym, ap, ◌∙◌, ap₂, arith, ext_get_or, ltb-false, ltb-true, le-ltb, lt-ltb, ne_eqb, eqb-true, le-leb, leb-true}
 use lib.ListN.{get_or-eq_default}
 use borrow.Author.Tests.{lt-leb, eqb-false}
 use Rattle.comparer.specs.Comparer.{Marks}
 use Rattle.comparer.specs.declared.Past.{Past}
 use Rattle.comparison.proofs.Compare.{past_byte, kind_not_past, length_not_past, length_meant, meant_kind, meant_length, same_true, same_refl}
 use Rattle.comparison.specs.Compare.{field_of, meant, is_past, same_bytes}
-use Rattle.lists.specs.Elements.{empty_list}
 use Rattle.lists.specs.Tests.{split, clash, and-false, or-true}
 use Rattle.session_log.specs.Record.{byte_at, kind_of}
 

@@ -2,4 +2,3 @@ pub mod Agreeing
 pub mod Counting
 pub mod Sides
 pub mod Feeding
-pub mod Long

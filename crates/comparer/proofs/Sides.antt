@@ -1,12 +1,12 @@
 -- What the comparer's code does with one log, with the progress and with both logs, over plain values.
 -- Assumes nothing.
-use Rattle.std.proofs.Common.{◌≡◌, ℕ, suc, ◌+◌, ◌<◌, ◌≤◌, min, Bool, true, false, cond, not, ◌&&◌, ◌||◌, eqb, ltb, leb, ◌≢◌, List, [], ◌∷◌, length, take, sym, refl, ap, ◌∙◌, ap₂, arith, length-take, take_all, ltb-false, ltb-true, eq-eqb, ne_eqb, eqb-true, leb-true}
+use Rattle.std.proofs.Common.{◌≡◌, ℕ, ◌+◌, ◌<◌, min, Bool, true, false, cond, not, ◌&&◌, ◌||◌, eqb, ltb, ◌≢◌, List, [], ◌∷◌, length, take, sym, ap, ◌∙◌, ap₂, arith, length-take, take_all, ltb-false, ltb-true, eq-eqb, ne_eqb, eqb-true, leb-true}
 use borrow.Author.Tests.{eqb-false, not-true, not-false}
 use Rattle.comparer.specs.Comparer.{side_in, took_in, what_in, progress_in, both_in}
 use Rattle.comparer.specs.declared.Both.{Both}
 use Rattle.comparer.specs.declared.Progress.{Progress}
 use Rattle.comparer.specs.declared.Side.{Side}
-use Rattle.comparison.specs.Compare.{meant, same_bytes, kinds, in_kind, in_body, in_end}
+use Rattle.comparison.specs.Compare.{meant, same_bytes, kinds, in_kind, in_body}
 use Rattle.comparison.specs.Comparing as comparing
 use Rattle.comparison.specs.Comparing.{going, decided, decided_at, met, alone, counted, tallied, is_waiting, is_wanted, FedSide, fed_side, settled, settled_by}
 use Rattle.lists.specs.Elements.{empty_list}
