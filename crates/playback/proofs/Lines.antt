@@ -1,6 +1,6 @@
 -- What a portion prints, taken in turns, and what a log prints, read in portions.
 -- Assumes nothing.
-use Rattle.std.proofs.Common.{ℕ, ◌+◌, ◌-◌, ◌<◌, ◌≤◌, List, [], ◌∷◌, ◌++◌, ◌≡◌, ◌⊎◌, Bool, true, false, cond, length, take, drop, refl, sym, ap, ap₂, ◌∙◌, subst, arith, append_assoc, append-nil, length-append, inl, inr, None, Some, IfSome, Result, Ok, Err, OnOk}
+use Rattle.std.proofs.Common.{ℕ, ◌+◌, ◌-◌, ◌<◌, ◌≤◌, List, [], ◌∷◌, ◌++◌, ◌≡◌, ◌⊎◌, Bool, true, false, true≢false, cond, length, take, drop, refl, sym, ap, ap₂, ◌∙◌, subst, arith, append_assoc, append-nil, length-append, inl, inr, None, Some, IfSome, Result, Ok, Err, OnOk}
 use borrow.Author.Tests.{le-ltb}
 use lib.ListN.{length-drop}
 use lib.Seq.{take-length, take-append_seam, drop-drop}
@@ -137,6 +137,15 @@ pub record Played (log0 log lines0 lines : Option (List ℕ)) (now : Session) (p
   pub counted : 18446744073709551615 ≤ length bytes + left
   pub stopped : length portion ≡ 0 → 0 < size → now.ended ≡ true ⊎ IsAtEnd log
 
+-- the first portion is read
+pub played_start : (log0 log lines : Option (List ℕ)) (s : Session) (portion : List ℕ) (size : ℕ)
+    → s ≡ fresh_session
+    → Consumes log0 log portion
+    → (length portion ≡ 0 → 0 < size → s.ended ≡ true ⊎ IsAtEnd log)
+    → Played log0 log lines lines s portion 18446744073709551615 size
+played_start log0 log lines s portion size at read stopped =
+    record { bytes = []; session_is = at; wrote = Appends-nil lines; read = read; counted = omega arith; stopped = stopped }
+
 -- the portion is played, and the next one is read
 pub played_on : (log0 log log' lines0 lines lines' : Option (List ℕ)) (s s' : Session) (portion portion' : List ℕ) (left size : ℕ)
     → Played log0 log lines0 lines s portion left size
@@ -217,6 +226,11 @@ pub last_line : (s : Session) (out out' : List ℕ) (written : ℕ) → 29 ≤ l
 last_line s out out' written room w o =
     let said : last_text s out ≡ finished s = ap (λ (b : Bool). cond b [] (finished s)) (le-ltb (length out) 29 room) in
     ap₂ (λ (n : ℕ) (l : List ℕ). take n l) w o ∙ take-append_seam (last_text s out) (drop (length (last_text s out)) out) ∙ said
+
+-- nothing has come yet
+pub none_ended : (b : Bool) (log : Option (List ℕ)) → false ≡ true ⊎ IsAtEnd log → b ≡ true ⊎ IsAtEnd log
+none_ended b log (inl e) = absurd (true≢false (sym e))
+none_ended b log (inr e) = inr e
 
 pub or_at_end : (b e : Bool) (log : Option (List ℕ)) → b ≡ e → b ≡ true ⊎ IsAtEnd log → e ≡ true ⊎ IsAtEnd log
 or_at_end b e log same (inl t) = inl (sym same ∙ t)

@@ -2,9 +2,23 @@
 use Rattle.std.proofs.Common.{rules, ◌≤◌, ◌<◌, ◌≡◌, ◌⊎◌, length, take, arith, inl, inr, subst}
 use Rattle.std.specs.Io.KnownBytes.{Appends}
 use Rattle.player.specs.Player.{session_of}
-use Rattle.playback.proofs.Lines.{played_on, played_end, on_ok, last_line, or_at_end}
+use Rattle.playback.proofs.Lines.{played_start, played_on, played_end, on_ok, last_line, none_ended, or_at_end}
 use Rattle.playback.proofs.play.Goals as goal
 use Rattle.playback.proofs.play.Goals.{then-loop-n-test+else-left-gt0, else-loop-n-test}
+
+pub loop-n-init : goal.loop-n-init
+loop-n-init g c = record {
+  in_range = search rules;
+  read_len = search rules;
+  same_size = search rules;
+  same_room = search rules;
+  played = λ h.
+      let portion = take c.in_ok-n.n c.read_portion.new.portion in
+      let stopped = λ (z : length portion ≡ 0) (size : 0 < length c.args.portion.now).
+      let none : c.in_ok-n.n ≡ 0 = omega (arith, c.in_ok-n.ensures.bound.1) in
+      none_ended _ _ (c.in_ok-n.ensures.end none size) in
+      played_start _ _ _ _ portion (length c.args.portion.now) c.fresh-player.ensures c.in_ok-n.ensures.bytes stopped;
+}
 
 pub loop-n-preserved : goal.loop-n-preserved
 loop-n-preserved g c = record {
