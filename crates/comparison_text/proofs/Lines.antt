@@ -14,7 +14,7 @@ use Rattle.comparison_text.proofs.Long.{value_most, two_digits, verdict_most, en
 use Rattle.comparison_text.specs.Text.{text_in}
 use Rattle.session_log.specs.Text.{decimal, blanked, line_of}
 use Rattle.text.proofs.Puts.{put_long, joined, spelt}
-use Rattle.text.specs.Line.{PutAt, RoomAt}
+use Rattle.text.specs.Line.{PutAt, RoomAt, LineAt}
 
 numbers : (number left right : ℕ) (word rest : List ℕ)
     → (((word ++ blanked (number ∷ [])) ++ blanked (left ∷ [])) ++ blanked (right ∷ [])) ++ rest ≡ word ++ (blanked (number ∷ left ∷ right ∷ []) ++ rest)
@@ -52,7 +52,7 @@ counted kind left right h k a b c d =
 
 -- a side and a blank, and a line of the replay after them
 pub called : {out : List ℕ} {at mid end : ℕ} {out' out'' : List ℕ} (side text : List ℕ) → at + (length side + 30) ≤ length out
-    → PutAt out at (side ++ (32 ∷ [])) mid out' → RoomAt 29 out' mid text end out'' → PutAt out at (side ++ (32 ∷ text)) end out''
+    → PutAt out at (side ++ (32 ∷ [])) mid out' → LineAt out' mid text end out'' → PutAt out at (side ++ (32 ∷ text)) end out''
 called side text h p q =
     let r = q.fits (omega (arith, put_long p, p.place, length-append side (32 ∷ []))) in
     spelt (append_assoc side (32 ∷ []) text) (joined p r)
