@@ -1,10 +1,10 @@
 -- One record more of a kind, in a table of eleven counts.
 -- Assumes nothing.
-use Rattle.std.proofs.Common.{◌≡◌, ℕ, zero, suc, ◌+◌, ◌-◌, ◌<◌, ◌≤◌, Bool, true, false, cond, ◌||◌, eqb, ltb, List, [], ◌∷◌, length, get_or, set, sym, refl, ap, ◌∙◌, ap₂, arith, ltb-false, ltb-true, eq-eqb, ne_eqb, eqb-true}
+use Rattle.std.proofs.Common.{◌≡◌, ℕ, zero, suc, ◌+◌, ◌-◌, ◌<◌, Bool, false, cond, ◌||◌, eqb, ltb, List, [], ◌∷◌, length, get_or, set, sym, refl, ap, ◌∙◌, ap₂, arith, ltb-false, eq-eqb, ne_eqb}
 use borrow.Author.Tests.{eqb-false}
 use Rattle.comparison.specs.Compare.{kinds}
 use Rattle.comparison.specs.Comparing.{counted}
-use Rattle.lists.specs.Tests.{split, neither}
+use Rattle.lists.specs.Tests.{neither}
 use Rattle.reading.specs.Reading.{place_after}
 
 -- n numbers from m on
@@ -34,14 +34,6 @@ counted_at m (suc n) (suc i) (c ∷ cs) e h =
     ap₂ (λ (b : Bool) (l : List ℕ). cond b (place_after c 1) c ∷ l) (ne_eqb (m + suc i) m (λ q. omega arith))
     (ap (counted (from (suc m) n) cs) s ∙ counted_at (suc m) n i cs (omega arith) (omega arith))
 
--- a kind that the code counts
-pub known : (kind : ℕ) → (eqb kind 0 || ltb 11 kind) ≡ false → (1 ≤ kind) × (kind - 1 < 11)
-known kind t =
-    let m = neither (eqb kind 0) (ltb 11 kind) t in
-    let a = eqb-false kind 0 m.0 in
-    let b = ltb-false 11 kind m.1 in
-    (omega arith, omega arith)
-
 pub count_known : (cs : List ℕ) (kind i : ℕ) → length cs ≡ 11 → (eqb kind 0 || ltb 11 kind) ≡ false → i ≡ kind - 1 → set cs i (place_after (get_or cs i 0) 1) ≡ counted kinds cs kind
 count_known cs kind i e t q =
     let m = neither (eqb kind 0) (ltb 11 kind) t in
@@ -49,9 +41,3 @@ count_known cs kind i e t q =
     let b = ltb-false 11 kind m.1 in
     let s : 1 + i ≡ kind = omega arith in
     sym (counted_at 1 11 i cs e (omega arith)) ∙ ap (counted kinds cs) s
-
-pub count_unknown : (cs : List ℕ) (kind : ℕ) → length cs ≡ 11 → (eqb kind 0 || ltb 11 kind) ≡ true → cs ≡ counted kinds cs kind
-count_unknown cs kind e t =
-    split (eqb kind 0)
-    (λ z. sym (counted_none 1 11 cs kind e (λ i h. ne_eqb kind (1 + i) (λ q. omega (arith, eqb-true kind 0 z)))))
-    (λ z. let b : 11 < kind = ltb-true 11 kind (rw z at t) in sym (counted_none 1 11 cs kind e (λ i h. ne_eqb kind (1 + i) (λ q. omega arith))))

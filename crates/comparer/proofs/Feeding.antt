@@ -23,13 +23,6 @@ pub record Feeding (c₀ : Comparing) (a b : List ℕ) (c : Comparing) (l r : �
 abbrev with_taken : Fed → ℕ → ℕ → Fed
 with_taken f n m = record { comparing = f.comparing; left = n; right = m }
 
-pub start : (c : Comparing) (a b : List ℕ) → Feeding c a b c 0 0
-start c a b = record {
-  left_within = omega arith;
-  right_within = omega arith;
-  all = ap₂ (with_taken (fed c a b)) (sym (zero-add (fed c a b).left)) (sym (zero-add (fed c a b).right));
-}
-
 -- the rest of a portion, as the code lends it
 pub rest : (a : List ℕ) (n : ℕ) → take (length a - n) (drop n a) ≡ drop n a
 rest a n = take_all (length a - n) (drop n a) (omega (arith, length-drop n a))

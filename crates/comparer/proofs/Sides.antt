@@ -1,15 +1,14 @@
 -- What the comparer's code does with one log, with the progress and with both logs, over plain values.
 -- Assumes nothing.
-use Rattle.std.proofs.Common.{◌≡◌, ℕ, ◌+◌, ◌<◌, min, Bool, true, false, cond, not, ◌&&◌, ◌||◌, eqb, ltb, ◌≢◌, List, [], ◌∷◌, length, take, sym, ap, ◌∙◌, ap₂, arith, length-take, take_all, ltb-false, ltb-true, eq-eqb, ne_eqb, eqb-true, leb-true}
+use Rattle.std.proofs.Common.{◌≡◌, ℕ, ◌+◌, ◌<◌, min, Bool, true, false, cond, not, ◌&&◌, ◌||◌, eqb, ltb, ◌≢◌, List, [], ◌∷◌, length, take, sym, ap, ◌∙◌, ap₂, arith, length-take, take_all, ltb-false, ltb-true, ne_eqb, eqb-true, leb-true}
 use borrow.Author.Tests.{eqb-false, not-true, not-false}
-use Rattle.comparer.specs.Comparer.{side_in, took_in, what_in, progress_in, both_in}
+use Rattle.comparer.specs.Comparer.{side_in, took_in, progress_in, both_in}
 use Rattle.comparer.specs.declared.Both.{Both}
 use Rattle.comparer.specs.declared.Progress.{Progress}
 use Rattle.comparer.specs.declared.Side.{Side}
-use Rattle.comparison.specs.Compare.{meant, same_bytes, kinds, in_kind, in_body}
+use Rattle.comparison.specs.Compare.{kinds}
 use Rattle.comparison.specs.Comparing as comparing
 use Rattle.comparison.specs.Comparing.{going, decided, decided_at, met, alone, counted, tallied, is_waiting, is_wanted, FedSide, fed_side, settled, settled_by}
-use Rattle.lists.specs.Elements.{empty_list}
 use Rattle.lists.specs.Tests.{split, both, and-true}
 use Rattle.reading.proofs.Reading.{came_whole}
 use Rattle.session_log.proofs.Record.{kind_held}
@@ -20,51 +19,9 @@ use Rattle.reader.specs.Turn.{reading_of, turn_of}
 use Rattle.reader.specs.declared.Cursor.{Cursor}
 use Rattle.reader.specs.declared.Turn.{Turn}
 
--- the progress: nothing differs so far, or something does
-progress_going : (p : Progress) → p.what ≡ 0 → progress_in p ≡ going p.number p.place
-progress_going p e = rw (eq-eqb p.what 0 e)
-
-progress_decided : (p : Progress) → p.what ≢ 0 → progress_in p ≡ decided_at p.number p.place (what_in p.what)
-progress_decided p d = rw (ne_eqb p.what 0 d)
-
-pub alone_going : (p : Progress) → p.what ≡ 0 → progress_in (record { number = p.number; place = p.place; what = 3 }) ≡ alone (progress_in p)
-alone_going p e = sym (ap alone (progress_going p e))
-
-pub alone_decided : (p : Progress) → p.what ≢ 0 → progress_in p ≡ alone (progress_in p)
-alone_decided p d = progress_decided p d ∙ sym (ap alone (progress_decided p d))
-
-module _ (p : Progress) (l r : List ℕ) where
-  pub met_decided : p.what ≢ 0 → progress_in p ≡ met (progress_in p) l r
-  met_decided d = progress_decided p d ∙ sym (ap (λ (x : comparing.Progress). met x l r) (progress_decided p d))
-
-  pub met_kind : p.what ≡ 0 → kind_of l ≢ kind_of r → progress_in (record { number = p.number; place = p.place; what = 1 }) ≡ met (progress_in p) l r
-  met_kind e d = sym (ap (λ (x : comparing.Progress). met x l r) (progress_going p e) ∙ differ)
-    where
-      differ : met (going p.number p.place) l r ≡ decided_at p.number p.place in_kind
-      differ = rw (ne_eqb (kind_of l) (kind_of r) d)
-
-  pub met_body : p.what ≡ 0 → kind_of l ≡ kind_of r → same_bytes (meant l) (meant r) ≡ false → progress_in (record { number = p.number; place = p.place; what = 2 }) ≡ met (progress_in p) l r
-  met_body e k d = sym (ap (λ (x : comparing.Progress). met x l r) (progress_going p e) ∙ differ)
-    where
-      differ : met (going p.number p.place) l r ≡ decided_at p.number p.place in_body
-      differ = rw (eq-eqb (kind_of l) (kind_of r) k, d)
-
-  pub met_same : (n place : ℕ) → p.what ≡ 0 → kind_of l ≡ kind_of r → same_bytes (meant l) (meant r) ≡ true → n ≡ place_after p.number 1 → place ≡ place_after p.place (length l)
-      → progress_in (record { number = n; place = place; what = p.what }) ≡ met (progress_in p) l r
-  met_same n place e k d a b =
-      progress_going (record { number = n; place = place; what = p.what }) e
-      ∙ ap₂ going a b
-      ∙ sym (ap (λ (x : comparing.Progress). met x l r) (progress_going p e) ∙ go)
-    where
-      go : met (going p.number p.place) l r ≡ going (place_after p.number 1) (place_after p.place (length l))
-      go = rw (eq-eqb (kind_of l) (kind_of r) k, d)
-
 -- whether a log wants bytes
 waiting_is : (s : Side) (bytes counts : List ℕ) → is_waiting (side_in s bytes counts) ≡ not (eqb s.waits 0)
 waiting_is s bytes counts = split (eqb s.waits 0) (λ e. rw e) (λ e. rw e)
-
-pub wanted_is : (s : Side) (bytes counts : List ℕ) → (eqb s.waits 0 && not (s.over || s.cursor.ended)) ≡ is_wanted (side_in s bytes counts)
-wanted_is s bytes counts = split (eqb s.waits 0) (λ e. rw e) (λ e. rw e)
 
 -- how a log ends
 pub end_bad : (bytes : List ℕ) (c : Cursor) → c.ended ≡ true → reading.bad_at c.place ≡ end_of (reading_of bytes c)
@@ -123,10 +80,6 @@ module _ (s : Side) (bytes counts portion : List ℕ) where
         whole =
             let n = came_some d in
             rw (ne_eqb t.call 0 d, ne_eqb t.length 0 (λ z. omega arith), q, kind_held bytes' t.length n)
-
--- the kind of no bytes
-pub kind_none : (l : List ℕ) → length l ≡ 0 → 0 ≡ kind_of l
-kind_none l e = sym (ap kind_of (empty_list l e))
 
 -- both logs, where one waits, or both
 take_28 : (n : ℕ) (l : List ℕ) → length l ≡ 28 → take (min n 28) l ≡ take n l

@@ -7,14 +7,13 @@ use native.Mathlib.Numerals.{add-one}
 use native.Mathlib.Omega.{arith}
 use lib.Dec.{eqb}
 use lib.ListN.{length, take, get_or}
-use lib.Seq.{take_all}
 use borrow.Author.Tests.{eqb-true}
 use Rattle.comparison.specs.Compare.{kinds}
 use Rattle.comparison.specs.Text.{count_lines}
 use Rattle.comparison_text.proofs.Long.{line_most}
 use Rattle.lists.specs.Below.{below}
 use Rattle.session_log.specs.Text.{line_of}
-use Rattle.text.proofs.Puts.{joined, put_none, spelt}
+use Rattle.text.proofs.Puts.{joined, spelt}
 use Rattle.text.specs.Line.{PutAt}
 
 next : (ks ls rs : List ℕ) (i : ℕ) → i < length ks → i < length ls → i < length rs
@@ -37,9 +36,6 @@ pub record Counting (out : List ℕ) (at : ℕ) (ls rs out' : List ℕ) (end i :
   pub most : end ≤ at + 45 * i
   pub within : i ≤ 11
 
-pub begins : (out : List ℕ) (at : ℕ) (ls rs : List ℕ) → at ≤ length out → Counting out at ls rs out at 0
-begins out at ls rs h = record { lines = put_none out at h; most = omega arith; within = omega arith }
-
 module _ {out : List ℕ} {at : ℕ} {ls rs out' : List ℕ} {end i : ℕ} (c : Counting out at ls rs out' end i) (l : length ls ≡ 11) (r : length rs ≡ 11) where
   pub goes : {end' : ℕ} {out'' : List ℕ} → i < 11 → PutAt out' end (line_of (i + 1) (get_or ls i 0 ∷ get_or rs i 0 ∷ [])) end' out'' → Counting out at ls rs out'' end' (i + 1)
   goes h p =
@@ -49,6 +45,3 @@ module _ {out : List ℕ} {at : ℕ} {ls rs out' : List ℕ} {end i : ℕ} (c : 
         most = omega (arith, c.most, p.place, line_most (i + 1) (get_or ls i 0) (get_or rs i 0) (omega arith));
         within = omega arith;
       }
-
-  pub ends : 11 ≤ i → PutAt out at (count_lines kinds ls rs) end out'
-  ends h = rw (take_all i kinds h, take_all i ls (omega arith), take_all i rs (omega arith)) at c.lines

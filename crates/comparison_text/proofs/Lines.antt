@@ -2,10 +2,10 @@
 -- Assumes nothing.
 use Prim.Native.Nat.{ℕ, ◌+◌, ◌≤◌, ◌<◌}
 use mathlib.Core.List.{List, [], ◌∷◌, ◌++◌, append_assoc, append-nil}
-use mathlib.Core.Path.{◌≡◌, refl}
+use mathlib.Core.Path.{◌≡◌}
 use native.Mathlib.Omega.{arith}
 use lib.ListN.{length, drop, length-append}
-use borrow.Author.Tests.{lt-ltb, le-ltb}
+use borrow.Author.Tests.{le-ltb}
 use Rattle.comparer.specs.Comparer.{verdict_in, end_in, comparison_of}
 use Rattle.comparer.specs.declared.Comparison.{Comparison}
 use Rattle.comparison.specs.Compare.{What, sides, differs_at, kinds}
@@ -79,8 +79,3 @@ module _ {out : List ℕ} {m₁ : ℕ} {out₁ : List ℕ} (c : Comparison) (h :
           let p = joined v (joined l (joined r n)) in
           let e : end ≡ length (printed (comparison_of c)) = omega (arith, p.place) in
           rw (le-ltb (length out) 640 h) (e, (rw (← e) p.bytes, omega (arith, p.room, put_long p)))
-
--- a buffer that has no room for the longest
-pub unwritten : (c : Comparison) (out : List ℕ) → length out < 640
-    → (0 ≡ length (text_in c out)) × ((out ≡ text_in c out ++ drop (length (text_in c out)) out) × (0 ≤ length out))
-unwritten c out h = rw (lt-ltb (length out) 640 h) (refl, (refl, omega arith))

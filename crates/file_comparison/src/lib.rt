@@ -30,9 +30,9 @@ fn fill<R: Read>(log: &mut R, buffer: &mut [u8], window: Window, wanted: bool) -
     Ok(Window { at: 0, end })
 }
 
-// Nothing more comes of a log that wants bytes, where none were read.
-fn closed(comparer: Comparer, right: bool, window: Window) -> Comparer {
-    if comparer.wants(right) & (window.at == window.end) {
+// Nothing more comes of a log that wanted bytes, where none were read.
+fn closed(comparer: Comparer, right: bool, window: Window, wanted: bool) -> Comparer {
+    if wanted & (window.at == window.end) {
         return comparer.over(right);
     }
     comparer
@@ -92,10 +92,12 @@ pub fn compare<L: Read, R: Read>(
     // at most 2^64 - 1 turns, of which each takes a byte at least or ends a log
     let mut turns: u64 = 18446744073709551615;
     while 0 < turns && (comparer.wants(false) | comparer.wants(true)) {
-        first = fill(left_log, left, first, comparer.wants(false))?;
-        second = fill(right_log, right, second, comparer.wants(true))?;
-        comparer = closed(comparer, false, first);
-        comparer = closed(comparer, true, second);
+        let left_wanted = comparer.wants(false);
+        let right_wanted = comparer.wants(true);
+        first = fill(left_log, left, first, left_wanted)?;
+        second = fill(right_log, right, second, right_wanted)?;
+        comparer = closed(comparer, false, first, left_wanted);
+        comparer = closed(comparer, true, second, right_wanted);
         let made = turn(comparer, left, first, right, second);
         comparer = made.comparer;
         first = made.left;

@@ -75,3 +75,54 @@ pub fn play<R: Read, W: Write>(
     let written = end.written;
     lines.write_all(&out[..written])
 }
+
+#[cfg(test)]
+mod tests {
+    use super::play;
+    use std::io;
+    use std::io::{ErrorKind, Read};
+    use std::test::Fail;
+
+    // A log that fails where its bytes end.
+    #[derive(Drop)]
+    struct Torn<'a>(&'a [u8]);
+
+    impl Read for Torn<'_> {
+        fn read(&mut self, buf: &mut [u8]) -> io::Result<usize> {
+            let n = self.0.read(buf)?;
+            if n == 0 {
+                return Err(io::Error::from(ErrorKind::TimedOut));
+            }
+            Ok(n)
+        }
+    }
+
+    // A handle is opened and received from; 0C is no kind.
+    const LOG: &[u8; 5] = b"\x01\x00\x05\x00\x0c";
+
+    #[test]
+    fn plays(rt: HostRuntime) -> Result<(), Fail> {
+        let mut lines = Vec::new(rt.alloc());
+        play(&mut &LOG[..], &mut [0; 3], &mut [0; 32], &mut lines)?;
+        assert_eq!(rt; lines.as_slice(), b"1 0\n5 11\nbad 4\n".as_slice());
+        Ok(())
+    }
+
+    #[test]
+    fn a_failed_read_is_no_end(rt: HostRuntime) -> Result<(), Fail> {
+        let mut lines = Vec::new(rt.alloc());
+        let played = play(&mut Torn(&LOG[..3]), &mut [0; 2], &mut [0; 32], &mut lines);
+        assert_eq!(rt; played.map_err(|e| e.kind()), Err(ErrorKind::TimedOut));
+        assert_eq!(rt; lines.as_slice(), b"1 0\n".as_slice());
+        Ok(())
+    }
+
+    // A slice takes as many bytes as it has room for.
+    #[test]
+    fn a_failed_write_is_said(rt: HostRuntime) -> Result<(), Fail> {
+        let mut room = [0; 6];
+        let played = play(&mut &LOG[..], &mut [0; 5], &mut [0; 32], &mut &mut room[..]);
+        assert_eq!(rt; played.map_err(|e| e.kind()), Err(ErrorKind::WriteZero));
+        Ok(())
+    }
+}
