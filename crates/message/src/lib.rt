@@ -1,7 +1,7 @@
 // A CEC message by value, and the reply test on messages and on byte slices.
 #![tactic(auto)]
 
-ghost use Rattle.std.specs.Prelude.{◌≡◌, ◌≤◌, ◌+◌, ◌*◌, ◌/◌, get_or};
+ghost use Rattle.std.specs.Prelude.{◌≡◌, ◌≤◌, ◌/◌, get_or};
 ghost use Rattle.message.specs.Message.{message, contents, sent_length, initiator, destination, opcode, address_at};
 
 pub mod reply;
@@ -14,34 +14,16 @@ pub struct Message {
     bytes: [u8; 16],
 }
 
-fn high_digit(byte: u8) -> u8
-    ensures value { result ≡ byte / 16 }
-    ensures upper_bound { result ≤ 15 }
-{
-    byte / 16
-}
-
-// Two bytes as a number, the high one first.
-fn joined(high: u8, low: u8) -> u16
-    ensures { result ≡ high * 256 + low }
-{
-    high as u16 * 256 + low as u16
-}
-
 impl Message {
     // From any length and any 16 bytes: a length past 16 counts as 16, and bytes past the length are 0.
     pub fn new(length: u8, bytes: [u8; 16]) -> Message
         ensures { result ≡ message length bytes }
     {
-        let held = lists::at_most(length as usize, 16);
+        let held = length.min(16);
         let mut kept = bytes;
-        let mut i = held;
-        while i < 16 {
-            kept[i] = 0;
-            i += 1;
-        }
+        kept[held as usize..].fill(0);
         Message {
-            length: held as u8,
+            length: held,
             bytes: kept,
         }
     }
@@ -62,7 +44,7 @@ impl Message {
         ensures value { result ≡ initiator self.bytes }
         ensures upper_bound { result ≤ 15 }
     {
-        high_digit(self.bytes[0])
+        self.bytes[0] / 16
     }
 
     pub fn destination(self) -> u8
@@ -82,26 +64,26 @@ impl Message {
     pub fn first_address(self) -> u16
         ensures { result ≡ address_at 2 self.bytes }
     {
-        joined(self.bytes[2], self.bytes[3])
+        u16::from_be_bytes([self.bytes[2], self.bytes[3]])
     }
 
     pub fn second_address(self) -> u16
         ensures { result ≡ address_at 4 self.bytes }
     {
-        joined(self.bytes[4], self.bytes[5])
+        u16::from_be_bytes([self.bytes[4], self.bytes[5]])
     }
 
     fn sent_length(self) -> usize
         ensures { result ≡ sent_length self }
     {
-        lists::at_most(self.length as usize, 16)
+        self.length.min(16) as usize
     }
 
     // The byte at a place, 0 past the length.
     fn sent_byte(self, i: usize) -> u8
         ensures { result ≡ get_or (contents self) i 0 }
     {
-        let n = self.sent_length();
-        if i < n { self.bytes[i] } else { 0 }
+        let sent = &self.bytes[..self.sent_length()];
+        sent.get(i).copied().unwrap_or(0)
     }
 }
