@@ -18,11 +18,7 @@ pub fn count_at(counts: [usize; 8], handle: u8) -> usize
     ensures value { result ≡ min (get_or counts handle 0) 16 }
     ensures upper_bound { result ≤ 16 }
 {
-    let h = handle as usize;
-    if 8 <= h {
-        return 0;
-    }
-    lists::at_most(counts[h], 16)
+    counts.get(handle as usize).copied().unwrap_or(0).min(16)
 }
 
 impl Inboxes {

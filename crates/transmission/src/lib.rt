@@ -22,7 +22,7 @@ pub struct Transmission {
 }
 
 // What is owed to a handle: room in its inbox, and replies that it wants.
-#[derive(Clone, Copy)]
+#[derive(Clone, Copy, Default)]
 pub struct Owed {
     pub room: usize,
     pub replies: usize,
@@ -40,7 +40,7 @@ impl Transmission {
             reply: 0,
             timeout: 0,
             to_followers: false,
-            message: message,
+            message,
         }
     }
 
@@ -69,12 +69,8 @@ impl Transmission {
         ensures replies_bound { result.replies ≤ 1 }
     {
         if self.owner != handle {
-            return Owed {
-                room: 0,
-                replies: 0,
-            };
-        }
-        if self.wants_reply {
+            Owed::default()
+        } else if self.wants_reply {
             Owed {
                 room: 2,
                 replies: 1,

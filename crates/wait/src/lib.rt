@@ -39,7 +39,7 @@ impl Wait {
         ensures value { result ≡ bit (owned_by handle self) }
         ensures upper_bound { result ≤ 1 }
     {
-        if self.owner == handle { 1 } else { 0 }
+        usize::from(self.owner == handle)
     }
 
     // The rule by which a message ends it; 0 if it does not.
@@ -53,12 +53,7 @@ impl Wait {
     pub fn reduced(mut self, ms: u32) -> Wait
         ensures { result ≡ reduced ms self }
     {
-        let left = self.left;
-        if left < ms {
-            self.left = 0;
-            return self;
-        }
-        self.left = left - ms;
+        self.left = self.left.saturating_sub(ms);
         self
     }
 }

@@ -30,7 +30,7 @@ impl Wire {
         ensures value { result ≡ length (wire_of self) }
         ensures upper_bound { result ≤ 1 }
     {
-        if self.busy { 1 } else { 0 }
+        usize::from(self.busy)
     }
 
     // Taken by a transmission; a busy wire stays.
@@ -71,10 +71,7 @@ impl Wire {
         if self.busy {
             self.slot.owed(handle)
         } else {
-            Owed {
-                room: 0,
-                replies: 0,
-            }
+            Owed::default()
         }
     }
 
