@@ -16,8 +16,7 @@ use Rattle.message.specs.Rule.{RULE-NONE, reply_rule}
 use Rattle.message.specs.declared.Message.{Message}
 use Rattle.wait.specs.Wait.{no_wait, answered_by, rule_for}
 use Rattle.wait.specs.declared.Wait.{Wait}
-use Rattle.waits.specs.Waits.{match_in}
-use Rattle.waits.specs.declared.Match.{Match}
+use Rattle.waits.specs.Waits.{NumberedMatch, match_in}
 
 module _ (m : Message) where
   -- a wait ends exactly if there is a rule
@@ -38,7 +37,7 @@ module _ (m : Message) where
   pub rule_past : (ws : List Wait) (i : ℕ) → length ws ≤ i → rule_for m (get_or ws i no_wait) ≡ RULE-NONE
   rule_past ws i h = ap (rule_for m) (get_or-eq_default ws no_wait {n = i} h) ∙ no_rule
 
-  pub match_at : (ws : List Wait) (i rule : ℕ) → first (answered_by m) ws ≡ i → rule ≡ rule_for m (get_or ws i no_wait) → ◌≡◌ {A = Match} (record { place = i; rule = rule }) (match_in m ws)
+  pub match_at : (ws : List Wait) (i rule : ℕ) → first (answered_by m) ws ≡ i → rule ≡ rule_for m (get_or ws i no_wait) → ◌≡◌ {A = NumberedMatch} (record { place = i; rule = rule }) (match_in m ws)
   match_at ws i rule e r = rw (e, r)
 
   -- a match is found exactly if its place is one of the list
