@@ -1,7 +1,7 @@
 // All waits of the adapter: at most 32 in one list, oldest first.
 #![tactic(auto)]
 
-ghost use Rattle.std.specs.Prelude.{◌≤◌, ◌<◌, ◌≡◌, [], map, length, get_or, MatchOption};
+ghost use Rattle.std.specs.Prelude.{◌≤◌, ◌<◌, ◌≡◌, [], map, ltb, length, get_or, cond, MatchOption};
 ghost use Rattle.lists.specs.Sums.{any, count};
 ghost use Rattle.lists.specs.Places.{least, without};
 ghost use Rattle.lists.specs.Vector.{put};
@@ -80,13 +80,12 @@ impl Waits {
     pub fn without_handle(mut self, handle: u8) -> Waits
         ensures { waits_of result ≡ without_handle handle (waits_of self) }
     {
+        let n = self.count();
         let mut kept = 0;
-        for i in 0..self.count() {
+        for i in 0..n {
             let wait = self.slots[i];
-            if wait.owner != handle {
-                self.slots[kept] = wait;
-                kept += 1;
-            }
+            self.slots[kept] = wait;
+            kept += 1 - wait.owned_by(handle);
         }
         self.count = kept;
         self
@@ -107,37 +106,53 @@ impl Waits {
     pub fn first_match(self, message: Message) -> Option<Match>
         ensures { numbered_match (length (waits_of self)) result ≡ match_in message (waits_of self) }
     {
-        for (place, wait) in self.all().iter().enumerate() {
-            if let Some(rule) = wait.rule_for(message) {
+        let n = self.count();
+        for place in 0..n {
+            if let Some(rule) = self.slots[place].rule_for(message) {
                 return Some(Match { place, rule });
             }
         }
         None
     }
 
+    // Of two places, that of the less time left, the first where equal.
+    fn sooner(self, at: usize, i: usize) -> usize
+        requires { (at < 32) × (i < 32) }
+        ensures { result ≡ cond (ltb (left_of (get_or self.slots i no_wait)) (left_of (get_or self.slots at no_wait))) i at }
+    {
+        if self.slots[i].left < self.slots[at].left {
+            i
+        } else {
+            at
+        }
+    }
+
     // The place of the least time left, the oldest of equals.
     fn soonest(self) -> Option<usize>
         ensures { MatchOption result (waits_of self ≡ []) (λ at. (at < length (waits_of self)) × (at ≡ least left_of (waits_of self))) }
     {
-        let waits = self.all();
-        if waits.is_empty() {
+        let n = self.count();
+        if n == 0 {
             return None;
         }
         let mut at = 0;
-        for i in 1..waits.len() {
-            if waits[i].left < waits[at].left {
-                at = i;
-            }
+        for i in 1..n {
+            at = self.sooner(at, i);
         }
         Some(at)
     }
 
     // The place of the next to end within some milliseconds.
+    #[tactic(auto, using(crate::specs::Waits::due_now, crate::specs::Waits::due_later, crate::specs::Waits::due_never))]
     fn due_at(self, ms: u32) -> Option<usize>
         ensures { MatchOption result (due_at ms (waits_of self) ≡ length (waits_of self)) (λ at. (at < length (waits_of self)) × (at ≡ due_at ms (waits_of self))) }
     {
         let at = self.soonest()?;
-        (self.at(at).left <= ms).then_some(at)
+        if self.at(at).left <= ms {
+            Some(at)
+        } else {
+            None
+        }
     }
 
     // The next to end within some milliseconds is taken out.
@@ -154,7 +169,8 @@ impl Waits {
     pub fn reduced(mut self, ms: u32) -> Waits
         ensures { waits_of result ≡ map (reduced ms) (waits_of self) }
     {
-        for i in 0..self.count() {
+        let n = self.count();
+        for i in 0..n {
             self.slots[i] = self.slots[i].reduced(ms);
         }
         self
