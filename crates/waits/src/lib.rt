@@ -148,11 +148,7 @@ impl Waits {
         ensures { MatchOption result (due_at ms (waits_of self) ≡ length (waits_of self)) (λ at. (at < length (waits_of self)) × (at ≡ due_at ms (waits_of self))) }
     {
         let at = self.soonest()?;
-        if self.at(at).left <= ms {
-            Some(at)
-        } else {
-            None
-        }
+        (self.at(at).left <= ms).then_some(at)
     }
 
     // The next to end within some milliseconds is taken out.
