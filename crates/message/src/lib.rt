@@ -1,8 +1,8 @@
 // A CEC message by value, and the reply test on messages and on byte slices.
 #![tactic(auto)]
 
-ghost use Rattle.std.specs.Prelude.{◌≡◌, ◌≤◌, ◌/◌, get_or};
-ghost use Rattle.message.specs.Message.{message, contents, sent_length, initiator, destination, opcode, address_at};
+ghost use Rattle.std.specs.Prelude.{◌≡◌, ◌≤◌, ◌/◌};
+ghost use Rattle.message.specs.Message.{message, contents, initiator, destination, opcode, address_at};
 
 pub mod reply;
 
@@ -73,17 +73,10 @@ impl Message {
         u16::from_be_bytes([self.bytes[4], self.bytes[5]])
     }
 
-    fn sent_length(self) -> usize
-        ensures { result ≡ sent_length self }
+    // The bytes that are sent.
+    fn contents(&self) -> &[u8]
+        ensures { result.now ≡ contents self.now }
     {
-        self.length.min(16) as usize
-    }
-
-    // The byte at a place, 0 past the length.
-    fn sent_byte(self, i: usize) -> u8
-        ensures { result ≡ get_or (contents self) i 0 }
-    {
-        let sent = &self.bytes[..self.sent_length()];
-        sent.get(i).copied().unwrap_or(0)
+        &self.bytes[..self.length.min(16) as usize]
     }
 }
