@@ -7,7 +7,9 @@ use mathlib.Core.Path.{◌≡◌, refl, sym, ◌∙◌}
 use lib.ListN.{drop}
 use Rattle.constants.specs.Kernel.{CEC-TX-STATUS-OK}
 use Rattle.copies.proofs.Turns.{copies_none}
-use Rattle.copies.specs.Kinds.{gets_copies, MONITORS}
+use Rattle.std.specs.Prelude.{Some}
+use Rattle.copies.specs.Kinds.{gets_copies}
+use Rattle.copies.specs.declared.Receivers.TheVariants.{Monitors}
 use Rattle.entry.specs.Entry.{result_entry, result_copy}
 use Rattle.entry.specs.declared.Counts.{Counts}
 use Rattle.entry.specs.declared.Entry.{Entry}
@@ -36,10 +38,10 @@ module _ (s : State) (t : Transmission) (status : ℕ) (kept : Counts) (ts : ℕ
   abbrev pub result_for : Entry
   result_for = result_entry t.sequence status kept t.message ts
 
-  pub watched_some : (c : State) (copy : Entry) → copy ≡ result_copy status kept t.message ts → c ≡ copies (in_role (gets_copies MONITORS)) copy s → c ≡ watched
+  pub watched_some : (c : State) (copy : Entry) → copy ≡ result_copy status kept t.message ts → c ≡ copies (in_role (gets_copies (Some Monitors))) copy s → c ≡ watched
   watched_some c copy x p = p ∙ rw x
 
-  pub watched_none : (some : Bool) → some ≡ any (in_role (gets_copies MONITORS)) s.handles → some ≡ false → s ≡ watched
+  pub watched_none : (some : Bool) → some ≡ any (in_role (gets_copies (Some Monitors))) s.handles → some ≡ false → s ≡ watched
   watched_none some x n = copies_none (in_role is_monitor) (result_copy status kept t.message ts) s refl (sym x ∙ n)
 
   -- the copies leave the wire and the waits as they were

@@ -7,7 +7,7 @@ ghost use Rattle.rules.specs.BusResult.{bus_result_refusal, do_bus_result, wait_
 
 use bus_status::{is_final, is_ok, kept_counts};
 use constants::EINVAL;
-use copies::MONITORS;
+use copies::Receivers;
 use entry::{Counts, Entry};
 use inbox::count_at;
 use parts::{Done, Parts, check, clock_errno};
@@ -27,14 +27,13 @@ fn bus_result_errno(parts: Parts, status: u8, ts: u64) -> u32
 fn wait_for(sent: Transmission, ts: u64) -> Wait
     ensures { result ≡ wait_for sent ts }
 {
-    let message = sent.message;
     Wait {
         owner: sent.owner,
         sequence: sent.sequence,
         left: sent.timeout,
         reply: sent.reply,
         to_followers: sent.to_followers,
-        sent: message,
+        sent: sent.message,
         tx_ts: ts,
     }
 }
@@ -49,11 +48,11 @@ pub fn bus_result(mut parts: Parts, status: u8, counts: Counts, ts: u64) -> Done
         let sent = parts.wire.head();
         let message = sent.message;
         let kept = kept_counts(status, counts);
-        let handles = parts.handles;
-        if copies::has(handles, MONITORS) {
+        let monitors = Some(Receivers::Monitors);
+        if copies::has(parts.handles, monitors) {
             parts = copies::copies(
                 parts,
-                MONITORS,
+                monitors,
                 Entry::result_copy(status, kept, message, ts),
             );
         }
@@ -69,8 +68,5 @@ pub fn bus_result(mut parts: Parts, status: u8, counts: Counts, ts: u64) -> Done
             parts.waits = parts.waits.put(wait_for(sent, ts));
         }
     }
-    Done {
-        parts: parts,
-        errno: errno,
-    }
+    Done { parts, errno }
 }

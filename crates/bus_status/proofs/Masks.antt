@@ -1,10 +1,12 @@
 -- The masks on a status byte are the bit tests of the rules: one computed test over all 256 values.
 -- Assumes nothing.
 use Prim.Native.Nat.{ℕ, ◌<◌}
-use mathlib.Core.Bool.{Bool, true, ◌&&◌, ◌||◌, not}
+use mathlib.Core.Bool.{Bool, true, ◌&&◌, not}
 use mathlib.Core.Path.{◌≡◌, refl}
 use lib.Bits.{bit_and}
 use lib.Dec.{eqb}
+use Rattle.std.specs.Int.Count.{ones}
+use Rattle.std.specs.Prelude.{count_ones}
 use borrow.Author.Tests.{eqb-true}
 use Rattle.lists.specs.Below.{all_below, below, agree, agreed}
 use Rattle.lists.specs.Tests.{split, both}
@@ -12,9 +14,9 @@ use Rattle.bus_status.specs.Counted.{is_counted_bit}
 use Rattle.rules.specs.BusResult.{is_final}
 use Rattle.rules.specs.Handles.{has_bit}
 
--- the mask of the four ends, as the code has it
+-- one bit of the mask of the four ends, as the code has it
 abbrev pub ends_in : ℕ → Bool
-ends_in n = eqb (bit_and n 225) 1 || eqb (bit_and n 225) 32 || eqb (bit_and n 225) 64 || eqb (bit_and n 225) 128
+ends_in n = eqb (count_ones (bit_and n 225)) 1
 
 abbrev pub is_set : ℕ → ℕ → Bool
 is_set b n = not (eqb (bit_and n b) 0)
@@ -30,7 +32,7 @@ right n =
     && agree (is_set 16 n) (has_bit 16 n)
 
 all_right : all_below right 256 ≡ true
-unfolding is_final
+unfolding is_final ones
 all_right = refl
 
 -- what the test says of one status

@@ -22,10 +22,7 @@ pub fn is_final(status: u8) -> bool
             | CEC_TX_STATUS_MAX_RETRIES
             | CEC_TX_STATUS_ABORTED
             | CEC_TX_STATUS_TIMEOUT);
-    (ends == CEC_TX_STATUS_OK)
-        | (ends == CEC_TX_STATUS_MAX_RETRIES)
-        | (ends == CEC_TX_STATUS_ABORTED)
-        | (ends == CEC_TX_STATUS_TIMEOUT)
+    ends.count_ones() == 1
 }
 
 pub fn is_ok(status: u8) -> bool

@@ -4,18 +4,21 @@ use Prim.Native.Nat.{ℕ, zero, suc, ◌+◌, ◌<◌}
 use mathlib.Core.Bool.{Bool, true, false, cond, ◌||◌}
 use mathlib.Core.List.{List, [], ◌∷◌, ◌++◌}
 use mathlib.Core.Logic.{◌≢◌}
-use mathlib.Core.Path.{◌≡◌, refl}
+use mathlib.Core.Path.{◌≡◌, refl, ap, ap₂, ◌∙◌}
 use native.Mathlib.Numerals.{add-one}
 use native.Mathlib.Omega.{arith}
 use lib.ListN.{get_or, length, set, take}
 use lib.Seq.{take-suc}
 use borrow.Author.Tests.{eq-eqb, ne_eqb}
-use Rattle.copies.specs.Kinds.{gets_copies, NOBODY}
+use Rattle.std.specs.List.{list_any, range_with_len}
+use Rattle.std.specs.Prelude.{Option, None}
+use Rattle.copies.specs.Kinds.{gets_copies}
+use Rattle.copies.specs.declared.Receivers.{Receivers}
 use Rattle.entry.specs.declared.Entry.{Entry}
 use Rattle.handle.specs.declared.Handle.{Handle}
 use Rattle.handles.specs.declared.Handles.{Handles}
-use Rattle.lists.specs.Sums.{any, any_append}
-use Rattle.lists.specs.Tests.{and-false, neither, or-false}
+use Rattle.lists.specs.Sums.{any}
+use Rattle.lists.specs.Tests.{and-false, neither}
 use Rattle.parts.specs.Parts.{with_changed}
 use Rattle.parts.specs.declared.Parts.{Parts}
 use Rattle.rules.specs.Deliver.{copies, copy_to, deliver, each, handle_numbers, loses, copy_to_by, copies_by}
@@ -24,10 +27,10 @@ use Rattle.rules.specs.Handles.{handle_at, in_role}
 use Rattle.rules.specs.State.{State, closed_handle, with_handles}
 
 -- one turn of the copies
-abbrev pub copy_if : ℕ → Entry → State → ℕ → State
+abbrev pub copy_if : Option Receivers → Entry → State → ℕ → State
 copy_if kind e t h = cond (in_role (gets_copies kind) (handle_at t h)) (copy_to e t h) t
 
-module _ (kind : ℕ) (e : Entry) (s : State) (h : ℕ) where
+module _ (kind : Option Receivers) (e : Entry) (s : State) (h : ℕ) where
   pub turn_lost : (hs : List Handle) → in_role (gets_copies kind) (handle_at s h) ≡ true → room_taken s h ≡ 16 → hs ≡ set s.handles h (loses (handle_at s h))
       → with_handles s hs ≡ copy_if kind e s h
   unfolding copy_to_by
@@ -40,7 +43,7 @@ module _ (kind : ℕ) (e : Entry) (s : State) (h : ℕ) where
   pub turn_none : in_role (gets_copies kind) (handle_at s h) ≡ false → s ≡ copy_if kind e s h
   turn_none c = rw c
 
-pub nobody : (kind : ℕ) (x : Handle) → kind ≡ NOBODY → in_role (gets_copies kind) x ≡ false
+pub nobody : (kind : Option Receivers) (x : Handle) → kind ≡ None → in_role (gets_copies kind) x ≡ false
 nobody kind x e = rw e (and-false x.is_open)
 
 each_last : (f : State → ℕ → State) (s : State) (xs : List ℕ) (x : ℕ) → each f s (xs ++ (x ∷ [])) ≡ f (each f s xs) x
@@ -62,9 +65,14 @@ pub each_next : (f : State → ℕ → State) (s : State) (h : ℕ) → h < 8 �
 each_next f s h b =
     rw (add-one, take-suc handle_numbers h 0 b, number_at h b) (each_last f s (take h handle_numbers) h)
 
--- a loop that looks for a handle looks at one more
-pub any_more : {A : Type 0} (p : A → Bool) (l : List A) (i : ℕ) (d : A) → i < length l → any p (take (i + 1) l) ≡ (any p (take i l) || p (get_or l i d))
-any_more p l i d b = rw (add-one, take-suc l i d b, any_append p (take i l) (get_or l i d ∷ []), or-false (p (get_or l i d)))
+-- a search by number finds what a search in the list finds
+any_shifted : (q : ℕ → Bool) (a n : ℕ) → list_any q (range_with_len (a + 1) n) ≡ list_any (λ k. q (suc k)) (range_with_len a n)
+any_shifted q a zero = refl
+any_shifted q a (suc n) = let e : a + 1 ≡ suc a = omega arith in ap₂ (λ (k : ℕ) (b : Bool). q k || b) e (any_shifted q (a + 1) n)
+
+pub any_by_number : {A : Type 0} (p : A → Bool) (l : List A) (d : A) → list_any (λ k. p (get_or l k d)) (range_with_len 0 (length l)) ≡ any p l
+any_by_number p [] d = refl
+any_by_number p (x ∷ l) d = ap (λ (b : Bool). p x || b) (any_shifted (λ k. p (get_or (x ∷ l) k d)) 0 (length l) ∙ any_by_number p l d)
 
 -- where no handle passes the test, nobody gets a copy
 any_one : {A : Type 0} (p : A → Bool) (l : List A) (i : ℕ) (d : A) → p d ≡ false → any p l ≡ false → p (get_or l i d) ≡ false

@@ -1,6 +1,6 @@
-use Rattle.std.proofs.Common.{◌-◌, ◌≡◌, ◌≤◌, take}
+use Rattle.std.proofs.Common.{◌≡◌, take}
 use Rattle.copies.proofs.Turns.{copied, copy_if}
-use Rattle.copies.specs.Kinds.{NOBODY}
+use Rattle.std.specs.Prelude.{None}
 use Rattle.parts.proofs.Arrays.{LongParts}
 use Rattle.parts.specs.Parts.{state_of}
 use Rattle.rules.specs.Deliver.{each, handle_numbers}
@@ -8,10 +8,6 @@ use Rattle.copies.proofs.copies.Given as goal
 
 abbrev pub invariant-loop-handle : goal.invariant-loop-handle
 invariant-loop-handle l =
-    (l.handle ≤ 8)
-    × LongParts (copied l.parts l.handles l.counts l.entries)
+    LongParts (copied l.parts l.handles l.counts l.entries)
     × (state_of (copied l.parts l.handles l.counts l.entries) ≡ each (copy_if l.kind l.entry) (state_of l.parts) (take l.handle handle_numbers))
-    × (l.kind ≡ NOBODY → copied l.parts l.handles l.counts l.entries ≡ l.parts)
-
-abbrev pub decreases-loop-handle : goal.decreases-loop-handle
-decreases-loop-handle l = 8 - l.handle
+    × (l.kind ≡ None → copied l.parts l.handles l.counts l.entries ≡ l.parts)
