@@ -9,7 +9,6 @@ ghost use Rattle.rules.specs.Call.{call_close, call_receive, call_bus_start, cal
 ghost use Rattle.text.specs.Line.{said_of};
 
 use adapter::{Adapter, Done};
-use entry::Entry;
 use fields::{counts_of, message_bytes, number_4, number_8, request_of, settings_of};
 use text::Said;
 
@@ -20,14 +19,16 @@ pub struct Played {
     pub said: Said,
 }
 
-// An errno alone.
-fn plain(errno: u32) -> Said
-    ensures { said_of result ≡ errno ∷ [] }
-{
-    Said {
-        errno: errno,
-        is_entry: false,
-        entry: Entry::none(),
+impl Played {
+    // The answer of a call that gives nothing to print but its errno.
+    fn plain(adapter: Adapter, errno: u32) -> Played
+        ensures adapter_value { result.adapter ≡ adapter }
+        ensures said_value { said_of result.said ≡ errno ∷ [] }
+    {
+        Played {
+            adapter,
+            said: Said::Errno(errno),
+        }
     }
 }
 
@@ -36,10 +37,7 @@ pub fn nothing(adapter: Adapter) -> Played
     ensures adapter_value { result.adapter ≡ adapter }
     ensures said_value { said_of result.said ≡ 0 ∷ [] }
 {
-    Played {
-        adapter: adapter,
-        said: plain(0),
-    }
+    Played::plain(adapter, 0)
 }
 
 // The answer of a call that gives nothing more.
@@ -47,22 +45,14 @@ fn of_done(answer: Done) -> Played
     ensures adapter_value { result.adapter ≡ answer.adapter }
     ensures said_value { said_of result.said ≡ answer.errno ∷ [] }
 {
-    let adapter = answer.adapter;
-    Played {
-        adapter: adapter,
-        said: plain(answer.errno),
-    }
+    Played::plain(answer.adapter, answer.errno)
 }
 
 pub fn open(adapter: Adapter, r: [u8; 28]) -> Played
     ensures { played_of result ≡ effect (state_of adapter) (open_of r) }
 {
     let answer = adapter.open(r[1] != 0);
-    let adapter = answer.adapter;
-    Played {
-        adapter: adapter,
-        said: plain(answer.errno),
-    }
+    Played::plain(answer.adapter, answer.errno)
 }
 
 pub fn close(adapter: Adapter, r: [u8; 28]) -> Played
@@ -81,27 +71,20 @@ pub fn transmit(adapter: Adapter, r: [u8; 28]) -> Played
     ensures { played_of result ≡ effect (state_of adapter) (transmit_of r) }
 {
     let answer = adapter.transmit(r[1], request_of(r));
-    let adapter = answer.adapter;
-    Played {
-        adapter: adapter,
-        said: plain(answer.errno),
-    }
+    Played::plain(answer.adapter, answer.errno)
 }
 
 pub fn receive(adapter: Adapter, r: [u8; 28]) -> Played
     ensures { played_of result ≡ effect (state_of adapter) (call_receive (byte_at r 1)) }
 {
     let answer = adapter.receive(r[1]);
-    let adapter = answer.adapter;
-    let entry = answer.entry;
-    let errno = answer.errno;
+    let said = match answer.errno {
+        0 => Said::Entry(answer.entry),
+        errno => Said::Errno(errno),
+    };
     Played {
-        adapter: adapter,
-        said: Said {
-            errno: errno,
-            is_entry: errno == 0,
-            entry: entry,
-        },
+        adapter: answer.adapter,
+        said,
     }
 }
 
@@ -109,11 +92,7 @@ pub fn start(adapter: Adapter) -> Played
     ensures { played_of result ≡ effect (state_of adapter) call_bus_start }
 {
     let answer = adapter.bus_start();
-    let adapter = answer.adapter;
-    Played {
-        adapter: adapter,
-        said: plain(answer.errno),
-    }
+    Played::plain(answer.adapter, answer.errno)
 }
 
 pub fn result(adapter: Adapter, r: [u8; 28]) -> Played

@@ -3,7 +3,6 @@
 use Rattle.std.proofs.Common.{ℕ, ◌+◌, ◌≤◌, ◌<◌, List, [], ◌∷◌, ◌++◌, append_assoc, ◌≡◌, refl, sym, ap, ◌∙◌, arith, length, take, drop, slice_set as set, get_or, length-append, length-drop, add-one, take-suc}
 use Rattle.std.proofs.lemmas.List.{append-nil, length-take, take-append-drop, set_split, take_at, drop_at, drop-drop}
 use Rattle.session_log.specs.Text.{decimal, blanked, line_of}
-use Rattle.text.proofs.Digits.{decimal_one}
 use Rattle.text.specs.Line.{PutAt, LineAt}
 
 pub stored : (out : List ℕ) (at b : ℕ) → at < length out → PutAt out at (b ∷ []) (at + 1) (set out at b)
@@ -49,20 +48,27 @@ pub number_put : {out : List ℕ} {at mid : ℕ} {out' : List ℕ} {end : ℕ} {
     → PutAt out at (32 ∷ []) mid out' → PutAt out' mid (decimal n) end out'' → PutAt out at (blanked (n ∷ [])) end out''
 number_put n p q = spelt (rw (append-nil (decimal n))) (joined p q)
 
-spaced : (a b c d : List ℕ) → ((a ++ (32 ∷ b)) ++ (32 ∷ c)) ++ (32 ∷ d) ≡ a ++ (32 ∷ (b ++ (32 ∷ (c ++ (32 ∷ d)))))
-spaced a b c d = simp append_assoc
-
-pub entry_numbers : (sequence tx rx n : ℕ)
-    → (((((32 ∷ []) ++ (48 ∷ [])) ++ blanked (sequence ∷ [])) ++ blanked (tx ∷ [])) ++ blanked (rx ∷ [])) ++ blanked (n ∷ []) ≡ blanked (0 ∷ sequence ∷ tx ∷ rx ∷ n ∷ [])
-entry_numbers sequence tx rx n = rw (decimal_one 0 (omega arith)) (simp append-nil (ap (λ (l : List ℕ). 32 ∷ 48 ∷ 32 ∷ l) (spaced (decimal sequence) (decimal tx) (decimal rx) (decimal n))))
-
 pub whole_line : (kind : ℕ) (numbers : List ℕ) → (decimal kind ++ blanked numbers) ++ (10 ∷ []) ≡ line_of kind numbers
 whole_line kind numbers = append_assoc (decimal kind) (blanked numbers) (10 ∷ [])
 
--- one byte more of a word
-pub copied : {out : List ℕ} {at i : ℕ} {out' : List ℕ} (w : List ℕ) → PutAt out at (take i w) (at + i) out' → at + length w ≤ length out → i < length w
-    → PutAt out at (take (i + 1) w) (at + (i + 1)) (set out' (at + i) (get_or w i 0))
-copied {out} {at} {i} {out'} w p h k =
-    let e : at + i + 1 ≡ at + (i + 1) = omega arith in
-    let b = stored out' (at + i) (get_or w i 0) (omega (arith, put_long p)) in
-    rw (← e) (spelt (rw (add-one i) (sym (take-suc w i 0 k))) (joined p b))
+-- one number more
+blanked_append : (xs ys : List ℕ) → blanked (xs ++ ys) ≡ blanked xs ++ blanked ys
+blanked_append [] ys = refl
+blanked_append (x ∷ xs) ys = ap (λ (l : List ℕ). 32 ∷ l) (rw (blanked_append xs ys) (sym (append_assoc (decimal x) (blanked xs) (blanked ys))))
+
+blanked_next : (ns : List ℕ) (i : ℕ) → i < length ns → blanked (take (i + 1) ns) ≡ blanked (take i ns) ++ blanked (get_or ns i 0 ∷ [])
+blanked_next ns i h = rw (add-one i, take-suc ns i 0 h) (blanked_append (take i ns) (get_or ns i 0 ∷ []))
+
+blanked_up_to : (ns : List ℕ) (i : ℕ) → length (blanked (take i ns)) ≤ length (blanked ns)
+blanked_up_to ns i =
+    omega (arith, ap length (blanked_append (take i ns) (drop i ns)), ap (λ (l : List ℕ). length (blanked l)) (take-append-drop i ns), length-append (blanked (take i ns)) (blanked (drop i ns)))
+
+-- there is room for the next number
+pub next_fits : (ns : List ℕ) (i : ℕ) → i < length ns → length (blanked (take i ns)) + 1 + length (decimal (get_or ns i 0)) ≤ length (blanked ns)
+next_fits ns i h =
+    let n = get_or ns i 0 in
+    omega (arith, blanked_up_to ns (i + 1), ap length (blanked_next ns i h), length-append (blanked (take i ns)) (blanked (n ∷ [])), length-append (decimal n) [])
+
+pub next_put : {out : List ℕ} {at i mid : ℕ} {out' : List ℕ} {end : ℕ} {out'' : List ℕ} (ns : List ℕ) → i < length ns
+    → PutAt out at (blanked (take i ns)) mid out' → PutAt out' mid (blanked (get_or ns i 0 ∷ [])) end out'' → PutAt out at (blanked (take (i + 1) ns)) end out''
+next_put {out} {at} {i} ns h p q = spelt (sym (blanked_next ns i h)) (joined p q)

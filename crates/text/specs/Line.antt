@@ -1,12 +1,14 @@
 -- What an answer says, and a line's text in a lent buffer.
 -- Assumes nothing.
-use Rattle.std.specs.Prelude.{ℕ, ◌+◌, ◌≤◌, ◌<◌, cond, List, [], ◌∷◌, ◌++◌, ◌≡◌, length, take, drop}
+use Rattle.std.specs.Prelude.{ℕ, ◌+◌, ◌≤◌, ◌<◌, List, [], ◌∷◌, ◌++◌, ◌≡◌, length, take, drop}
 use Rattle.session_log.specs.Text.{line_max}
 use Rattle.text.specs.declared.Said.{Said}
+use Rattle.text.specs.declared.Said.TheVariants.{Errno, Entry}
 
 -- the numbers that an answer adds to the kind, as in `Text.numbers_of`
 abbrev pub said_of : Said → List ℕ
-said_of s = cond s.is_entry (0 ∷ s.entry.sequence ∷ s.entry.tx_status ∷ s.entry.rx_status ∷ s.entry.message.length ∷ []) (s.errno ∷ [])
+said_of (Errno errno) = errno ∷ []
+said_of (Entry e) = 0 ∷ e.sequence ∷ e.tx_status ∷ e.rx_status ∷ e.message.length ∷ []
 
 -- a text in a buffer from a place on, the place after it, and the buffer with it
 pub record PutAt (out : List ℕ) (at : ℕ) (text : List ℕ) (end : ℕ) (out' : List ℕ) : Type 0 where

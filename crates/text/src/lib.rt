@@ -11,12 +11,10 @@ use entry::Entry;
 pub const LINE_MAX: usize = 29;
 
 // What an answer says: an errno, 0 for success, or an entry that was received.
-#[repr(C)]
 #[derive(Clone, Copy)]
-pub struct Said {
-    pub errno: u32,
-    pub is_entry: bool,
-    pub entry: Entry,
+pub enum Said {
+    Errno(u32),
+    Entry(Entry),
 }
 
 // Each of these functions puts its text at a place, and gives the place after it.
@@ -39,105 +37,34 @@ fn decimal(out: &mut [u8], at: usize, n: u64) -> usize
     byte(out, last, b'0' + (n % 10) as u8)
 }
 
-// A blank and a number, by its width: at most 20, 10 or 3 digits.
-#[tactic(auto, using(crate::proofs::Digits::decimal_64))]
+fn bytes(out: &mut [u8], at: usize, text: &[u8]) -> usize
+    requires { at + length text.now ≤ length out.old }
+    ensures { PutAt out.old at text.now result out.new }
+{
+    let end = at + text.len();
+    out[at..end].copy_from_slice(text);
+    end
+}
+
+// A blank and a number.
 fn number(out: &mut [u8], at: usize, n: u64) -> usize
-    requires { at + 21 ≤ length out.old }
-    ensures put_at { PutAt out.old at (blanked (n ∷ [])) result out.new }
-    ensures upper_bound { result ≤ at + 21 }
+    requires { at + 1 + length (decimal n) ≤ length out.old }
+    ensures { PutAt out.old at (blanked (n ∷ [])) result out.new }
 {
     let next = byte(out, at, b' ');
     decimal(out, next, n)
 }
 
-#[tactic(auto, using(crate::proofs::Digits::decimal_32))]
-fn number_32(out: &mut [u8], at: usize, n: u32) -> usize
-    requires { at + 11 ≤ length out.old }
-    ensures put_at { PutAt out.old at (blanked (n ∷ [])) result out.new }
-    ensures upper_bound { result ≤ at + 11 }
+// Numbers, a blank before each.
+fn numbers(out: &mut [u8], at: usize, list: &[u64]) -> usize
+    requires { at + length (blanked list.now) ≤ length out.old }
+    ensures { PutAt out.old at (blanked list.now) result out.new }
 {
-    let next = byte(out, at, b' ');
-    decimal(out, next, n as u64)
-}
-
-#[tactic(auto, using(crate::proofs::Digits::decimal_8))]
-fn number_8(out: &mut [u8], at: usize, n: u8) -> usize
-    requires { at + 4 ≤ length out.old }
-    ensures put_at { PutAt out.old at (blanked (n ∷ [])) result out.new }
-    ensures upper_bound { result ≤ at + 4 }
-{
-    let next = byte(out, at, b' ');
-    decimal(out, next, n as u64)
-}
-
-// What a receive that gave an entry says: its errno is 0.
-fn numbers(out: &mut [u8], at: usize, entry: Entry) -> usize
-    requires { at + 25 ≤ length out.old }
-    ensures put_at { PutAt out.old at (blanked (0 ∷ entry.sequence ∷ entry.tx_status ∷ entry.rx_status ∷ entry.message.length ∷ [])) result out.new }
-    ensures upper_bound { result ≤ at + 25 }
-{
-    let message = entry.message;
-    let mut end = byte(out, at, b' ');
-    end = byte(out, end, b'0');
-    end = number_32(out, end, entry.sequence);
-    end = number_8(out, end, entry.tx_status);
-    end = number_8(out, end, entry.rx_status);
-    number_8(out, end, message.length())
-}
-
-// The line of a record: its kind, and what the answer says. The test of the room is written as in the loop of `Player::feed`,
-// so that it is made once there.
-#[tactic(auto, using(crate::proofs::Digits::decimal_8))]
-pub fn answer_line(out: &mut [u8], at: usize, kind: u8, said: Said) -> usize
-    ensures { LineAt out.old at (line_of kind (said_of said)) result out.new }
-{
-    let size = out.len();
-    if size < LINE_MAX {
-        return at;
+    let mut end = at;
+    for n in list {
+        end = number(out, end, *n);
     }
-    if size - LINE_MAX < at {
-        return at;
-    }
-    let begun = decimal(out, at, kind as u64);
-    if said.is_entry {
-        let entry = said.entry;
-        let end = numbers(out, begun, entry);
-        return byte(out, end, b'\n');
-    }
-    let end = number_32(out, begun, said.errno);
-    byte(out, end, b'\n')
-}
-
-// A word of three letters and a place in the log.
-fn place_line(out: &mut [u8], at: usize, b0: u8, b1: u8, b2: u8, place: u64) -> usize
-    ensures { LineAt out.old at (b0 ∷ b1 ∷ b2 ∷ (blanked (place ∷ []) ++ (10 ∷ []))) result out.new }
-{
-    let size = out.len();
-    if size < LINE_MAX {
-        return at;
-    }
-    if size - LINE_MAX < at {
-        return at;
-    }
-    let mut end = byte(out, at, b0);
-    end = byte(out, end, b1);
-    end = byte(out, end, b2);
-    end = number(out, end, place);
-    byte(out, end, b'\n')
-}
-
-// "An unknown kind prints `bad` and its offset".
-pub fn bad_line(out: &mut [u8], at: usize, place: u64) -> usize
-    ensures { LineAt out.old at (bad_line place) result out.new }
-{
-    place_line(out, at, b'b', b'a', b'd', place)
-}
-
-// "a cut record at the end prints `cut` and its offset".
-pub fn cut_line(out: &mut [u8], at: usize, place: u64) -> usize
-    ensures { LineAt out.old at (cut_line place) result out.new }
-{
-    place_line(out, at, b'c', b'u', b't', place)
+    end
 }
 
 // Whether a buffer of a size has no room for so many bytes at a place.
@@ -145,10 +72,69 @@ fn lacks(size: usize, at: usize, most: usize) -> bool
     ensures size_bound { result ≡ true → size < at + most }
     ensures most_bound { result ≡ false → at + most ≤ size }
 {
-    if size < most {
-        return true;
+    size < most || size - most < at
+}
+
+// What an answer says. A receive that gave an entry says first that its errno is 0.
+fn said_numbers(out: &mut [u8], at: usize, said: Said) -> usize
+    requires { at + 25 ≤ length out.old }
+    ensures put_at { PutAt out.old at (blanked (said_of said)) result out.new }
+    ensures upper_bound { result ≤ at + 25 }
+{
+    match said {
+        Said::Errno(errno) => number(out, at, u64::from(errno)),
+        Said::Entry(entry) => numbers(
+            out,
+            at,
+            &[
+                0,
+                u64::from(entry.sequence),
+                u64::from(entry.tx_status),
+                u64::from(entry.rx_status),
+                u64::from(entry.message.length()),
+            ],
+        ),
     }
-    size - most < at
+}
+
+// The line of a record: its kind, and what the answer says.
+#[tactic(auto, using(crate::proofs::Digits::decimal_8))]
+pub fn answer_line(out: &mut [u8], at: usize, kind: u8, said: Said) -> usize
+    ensures { LineAt out.old at (line_of kind (said_of said)) result out.new }
+{
+    if lacks(out.len(), at, LINE_MAX) {
+        return at;
+    }
+    let begun = decimal(out, at, u64::from(kind));
+    let end = said_numbers(out, begun, said);
+    byte(out, end, b'\n')
+}
+
+// A word of three letters and a place in the log.
+#[tactic(auto, using(crate::proofs::Digits::decimal_most, crate::proofs::Digits::last_most))]
+fn place_line(out: &mut [u8], at: usize, word: &[u8; 3], place: u64) -> usize
+    ensures { LineAt out.old at (word.now ++ (blanked (place ∷ []) ++ (10 ∷ []))) result out.new }
+{
+    if lacks(out.len(), at, LINE_MAX) {
+        return at;
+    }
+    let said = bytes(out, at, word);
+    let end = number(out, said, place);
+    byte(out, end, b'\n')
+}
+
+// "An unknown kind prints `bad` and its offset".
+pub fn bad_line(out: &mut [u8], at: usize, place: u64) -> usize
+    ensures { LineAt out.old at (bad_line place) result out.new }
+{
+    place_line(out, at, b"bad", place)
+}
+
+// "a cut record at the end prints `cut` and its offset".
+pub fn cut_line(out: &mut [u8], at: usize, place: u64) -> usize
+    ensures { LineAt out.old at (cut_line place) result out.new }
+{
+    place_line(out, at, b"cut", place)
 }
 
 // A word, if it fits.
@@ -158,12 +144,7 @@ pub fn word(out: &mut [u8], at: usize, word: &[u8]) -> usize
     if lacks(out.len(), at, word.len()) {
         return at;
     }
-    let mut i = 0;
-    while i < word.len() {
-        out[at + i] = word[i];
-        i += 1;
-    }
-    at + i
+    bytes(out, at, word)
 }
 
 // A number, as it stands first on a line, if the longest fits.
@@ -178,6 +159,7 @@ pub fn first_value(out: &mut [u8], at: usize, n: u64) -> usize
 }
 
 // A blank and a number, if the longest fits.
+#[tactic(auto, using(crate::proofs::Digits::decimal_most))]
 pub fn value(out: &mut [u8], at: usize, n: u64) -> usize
     ensures { RoomAt 21 out.old at (blanked (n ∷ [])) result out.new }
 {

@@ -1,9 +1,9 @@
-use Rattle.text.proofs.Puts.{joined, spelt, entry_numbers}
+use Rattle.std.proofs.Common.{arith}
+use Rattle.text.proofs.Puts.{next_fits, next_put, put_long}
 use Rattle.text.proofs.numbers.Goals as goal
 
-pub returns-clause-put_at : goal.returns-clause-put_at
-returns-clause-put_at c =
-    let e = c.args.entry in
-    let m = rw c.length.ensures at c.number_8.ensures.put_at in
-    let p = joined (joined (joined (joined (joined c.byte-end.ensures c.byte-end-2.ensures) c.number_32-end.ensures.put_at) c.number_8-end.ensures.put_at) c.number_8-end-2.ensures.put_at) m in
-    spelt (entry_numbers e.sequence e.tx_status e.rx_status e.message.length) p
+pub number-end-requires : goal.number-end-requires
+number-end-requires c = omega (arith, c.requires, c.loop-n.invariant.place, put_long c.loop-n.invariant, next_fits c.args.list.now c.loop-n.n-index c.loop-n-test.true)
+
+pub loop-n-preserved : goal.loop-n-preserved
+loop-n-preserved c = next_put c.args.list.now c.loop-n-test.true c.loop-n.invariant c.number-end.ensures
