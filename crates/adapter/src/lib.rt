@@ -3,6 +3,7 @@
 
 ghost use Rattle.std.specs.Prelude.{◌≢◌, ◌≡◌};
 ghost use Rattle.adapter.specs.Adapter.{state_of, done_of, opened_of, transmitted_of, received_of, started_of, active_of, refused_call, refused_open, refused_transmit, refused_receive, refused_bus_start};
+ghost use Rattle.parts.specs.Parts.{parts_outcome};
 ghost use Rattle.request.specs.Request.{request_of};
 ghost use Rattle.rows.specs.Noted.{noted_of, refused_lookup};
 ghost use Rattle.rules.specs.Call.{call_open, call_close, call_mode, call_transmit, call_receive, call_bus_start, call_bus_result, call_message, call_time, call_configure, call_unconfigure, call_lookup, call_active_address};
@@ -10,6 +11,7 @@ ghost use Rattle.rules.specs.Listing.{row_of};
 ghost use Rattle.rules.specs.State.{fresh};
 ghost use Rattle.rules.specs.Step.{step};
 
+use constants::Errno;
 use entry::{Counts, Entry};
 use handle::Row;
 use message::Message;
@@ -75,6 +77,23 @@ impl Adapter {
         }
     }
 
+    // The answer of a call that gives nothing more: the adapter after it, or as it was beside the number of the refusal.
+    fn done(self, answer: Result<Parts, Errno>) -> Done
+        ensures result_value { done_of result ≡ parts_outcome (state_of self) answer }
+        ensures value { result.errno ≢ 0 → result ≡ refused_call self result.errno }
+    {
+        match answer {
+            Ok(parts) => Done {
+                adapter: Adapter { parts },
+                errno: 0,
+            },
+            Err(errno) => Done {
+                adapter: self,
+                errno: u32::from(errno),
+            },
+        }
+    }
+
     pub fn open(self, privileged: bool) -> Opened
         ensures result_value { opened_of result ≡ step (state_of self) (call_open privileged) }
         ensures value { result.errno ≢ 0 → result ≡ refused_open self result.errno }
@@ -92,12 +111,7 @@ impl Adapter {
         ensures result_value { done_of result ≡ step (state_of self) (call_close handle) }
         ensures value { result.errno ≢ 0 → result ≡ refused_call self result.errno }
     {
-        let closed = close::close(self.parts, handle);
-        let parts = closed.parts;
-        Done {
-            adapter: Adapter { parts: parts },
-            errno: closed.errno,
-        }
+        self.done(close::close(self.parts, handle))
     }
 
     pub fn set_mode(self, handle: u8, mode: u32) -> Done

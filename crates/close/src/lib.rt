@@ -1,38 +1,33 @@
 // Close.
 #![tactic(auto)]
 
-ghost use Rattle.std.specs.Prelude.{◌≢◌, ◌≡◌};
-ghost use Rattle.parts.specs.Parts.{state_of, done_of};
+ghost use Rattle.std.specs.Prelude.{◌≡◌};
+ghost use Rattle.parts.specs.Parts.{state_of, errno_of, parts_outcome};
 ghost use Rattle.rules.specs.Close.{do_close, close_refusal};
 
-use constants::EBADF;
+use constants::Errno;
 use handles::closed;
-use parts::{Done, Parts, check};
+use parts::Parts;
 
-fn close_errno(parts: Parts, handle: u8) -> u32
-    ensures { result ≡ close_refusal (state_of parts) handle }
+#[tactic(auto, unfolding(rules::specs::Call::check))]
+fn check(parts: Parts, handle: u8) -> Result<(), Errno>
+    ensures { errno_of result ≡ close_refusal (state_of parts) handle }
 {
-    check(!parts.is_open(handle), EBADF, 0)
+    if !parts.is_open(handle) {
+        return Err(Errno::EBADF);
+    }
+    Ok(())
 }
 
-pub fn close(parts: Parts, handle: u8) -> Done
-    ensures result_value { done_of result ≡ do_close (state_of parts) handle }
-    ensures parts_value { result.errno ≢ 0 → result.parts ≡ parts }
+// The parts after it, or the refusal.
+pub fn close(parts: Parts, handle: u8) -> Result<Parts, Errno>
+    ensures { parts_outcome (state_of parts) result ≡ do_close (state_of parts) handle }
 {
-    let errno = close_errno(parts, handle);
-    if errno != 0 {
-        return Done {
-            parts: parts,
-            errno: errno,
-        };
-    }
+    check(parts, handle)?;
     let mut after = parts.with_inboxes(parts.inboxes().clear(handle));
     after.handles = parts.handles.with(handle, closed());
     after.queue = parts.queue.orphaned(handle);
     after.wire = parts.wire.orphaned(handle);
     after.waits = parts.waits.without_handle(handle);
-    Done {
-        parts: after,
-        errno: 0,
-    }
+    Ok(after)
 }

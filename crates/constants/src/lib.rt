@@ -1,6 +1,9 @@
 // The kernel's names for the numbers: errno.h and linux/cec.h. specs/ has the same names for the definitions, with '-' for '_'.
 #![tactic(auto)]
 
+ghost use Rattle.std.specs.Prelude.{◌≡◌};
+ghost use Rattle.constants.specs.Errno.{errno_number};
+
 // Errors: what a refused call gives back (document 01, "Numbers given back"; errno.h).
 pub const EPERM: u32 = 1;
 
@@ -17,6 +20,36 @@ pub const EMFILE: u32 = 24;
 pub const ENOTTY: u32 = 25;
 
 pub const ENONET: u32 = 64;
+
+// A refusal, by the name of its number.
+#[derive(Clone, Copy, Debug, PartialEq, Eq)]
+pub enum Errno {
+    EPERM,
+    EBADF,
+    EAGAIN,
+    EBUSY,
+    EINVAL,
+    EMFILE,
+    ENOTTY,
+    ENONET,
+}
+
+impl From<Errno> for u32 {
+    ghost from_gives = { λ errno number. number ≡ errno_number errno };
+
+    fn from(errno: Errno) -> u32 {
+        match errno {
+            Errno::EPERM => EPERM,
+            Errno::EBADF => EBADF,
+            Errno::EAGAIN => EAGAIN,
+            Errno::EBUSY => EBUSY,
+            Errno::EINVAL => EINVAL,
+            Errno::EMFILE => EMFILE,
+            Errno::ENOTTY => ENOTTY,
+            Errno::ENONET => ENONET,
+        }
+    }
+}
 
 // Modes of a handle: the initiator part in the low digit, the follower part above it (document 01, "Modes"; linux/cec.h).
 pub const CEC_MODE_NO_INITIATOR: u32 = 0x00;

@@ -1,6 +1,8 @@
 -- The adapter's parts as the code holds them, read as a state (document 01, "The adapter's parts").
 -- Assumes nothing.
-use Rattle.std.specs.Prelude.{ℕ, cond, List, eqb}
+use Rattle.std.specs.Prelude.{ℕ, cond, List, eqb, Result, Ok, Err}
+use Rattle.constants.specs.Errno.{errno_number}
+use Rattle.constants.specs.declared.Errno.{Errno}
 use Rattle.entry.specs.declared.Entry.{Entry}
 use Rattle.handles.specs.Roles.{handles_of}
 use Rattle.handles.specs.declared.Handles.{Handles}
@@ -57,3 +59,17 @@ or_refused errno a = cond (eqb errno 0) a (refused errno)
 
 abbrev pub done_of : Done → Outcome
 done_of r = finish (or_refused r.errno done) (state_of r.parts)
+
+-- the errno of checks, 0 where they are passed
+abbrev pub errno_of : Result Unit Errno → ℕ
+errno_of (Ok x) = 0
+errno_of (Err e) = errno_number e
+
+-- what a call gives and leaves, or the number of its refusal, and the state as it was
+abbrev pub outcome_of : {A : Type 0} → (A → Outcome) → State → Result A Errno → Outcome
+outcome_of accepted before (Ok x) = accepted x
+outcome_of accepted before (Err e) = finish (refused (errno_number e)) before
+
+-- a call that gives nothing more
+abbrev pub parts_outcome : State → Result Parts Errno → Outcome
+parts_outcome = outcome_of (λ p. finish done (state_of p))
