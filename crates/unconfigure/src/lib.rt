@@ -4,8 +4,9 @@
 ghost use Rattle.std.specs.Prelude.{◌≡◌};
 ghost use Rattle.unconfigure.specs.Aborted.{transmits_aborted, waits_aborted};
 ghost use Rattle.inbox.specs.Inboxes.{inboxes_of, delivered};
-ghost use Rattle.parts.specs.Parts.{state_of, done_of};
+ghost use Rattle.parts.specs.Parts.{state_of};
 ghost use Rattle.queue.specs.Queue.{queue_of};
+ghost use Rattle.rules.specs.Call.{finish, done};
 ghost use Rattle.rules.specs.Unconfigure.{aborted_result, abort_entry, do_unconfigure};
 ghost use Rattle.traffic.specs.Traffic.{pending_of};
 ghost use Rattle.waits.specs.Waits.{waits_of};
@@ -14,7 +15,7 @@ ghost use Rattle.wire.specs.Wire.{wire_of};
 use constants::{CEC_PHYS_ADDR_INVALID, CEC_TX_STATUS_ABORTED};
 use entry::{Counts, Entry};
 use inbox::Inboxes;
-use parts::{Done, Parts, no_settings, none_noted};
+use parts::{Parts, no_settings, none_noted};
 use queue::Queue;
 use transmission::Transmission;
 use wait::Wait;
@@ -50,12 +51,9 @@ fn abort_wire(inboxes: Inboxes, wire: Wire) -> Inboxes
 fn abort_queue(inboxes: Inboxes, queue: Queue) -> Inboxes
     ensures { inboxes_of result ≡ transmits_aborted (inboxes_of inboxes) (queue_of queue) }
 {
-    let n = queue.count();
     let mut after = inboxes;
-    let mut i = 0;
-    while i < n {
+    for i in 0..queue.count() {
         after = abort_transmit(after, queue.at(i));
-        i += 1;
     }
     after
 }
@@ -74,12 +72,9 @@ fn abort_wait(inboxes: Inboxes, wait: Wait) -> Inboxes
 fn abort_waits(inboxes: Inboxes, waits: Waits) -> Inboxes
     ensures { inboxes_of result ≡ waits_aborted (inboxes_of inboxes) (waits_of waits) }
 {
-    let n = waits.count();
     let mut after = inboxes;
-    let mut i = 0;
-    while i < n {
+    for i in 0..waits.count() {
         after = abort_wait(after, waits.at(i));
-        i += 1;
     }
     after
 }
@@ -94,8 +89,8 @@ fn abort(inboxes: Inboxes, queue: Queue, wire: Wire, waits: Waits) -> Inboxes
 }
 
 // All that is on its way ends; address 0xFFFF, mask 0, noted addresses and the active one cleared, the other settings 0. The clock stays.
-pub fn unconfigure(parts: Parts) -> Done
-    ensures { done_of result ≡ do_unconfigure (state_of parts) }
+pub fn unconfigure(parts: Parts) -> Parts
+    ensures { finish done (state_of result) ≡ do_unconfigure (state_of parts) }
 {
     let inboxes = abort(parts.inboxes(), parts.queue, parts.wire, parts.waits);
     let mut after = parts.with_inboxes(inboxes);
@@ -106,8 +101,5 @@ pub fn unconfigure(parts: Parts) -> Done
     let noted = none_noted();
     after.noted = noted;
     after.active = CEC_PHYS_ADDR_INVALID;
-    Done {
-        parts: after,
-        errno: 0,
-    }
+    after
 }
