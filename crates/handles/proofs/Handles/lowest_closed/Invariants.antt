@@ -1,5 +1,5 @@
 -- No handle before the next is closed.
-use Rattle.std.proofs.Common.{false, ◌≡◌, ◌≤◌, ◌-◌, take}
+use Rattle.std.proofs.Common.{false, ◌≡◌, take}
 use Rattle.lists.specs.Sums.{any}
 use Rattle.handles.specs.Roles.{is_closed}
 use Rattle.handles.proofs.Handles.lowest_closed.Given as goal

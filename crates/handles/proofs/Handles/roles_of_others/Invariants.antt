@@ -1,5 +1,5 @@
 -- Each role, of the handles before the next but the one.
-use Rattle.std.proofs.Common.{◌≡◌, ◌≤◌, ◌-◌, take}
+use Rattle.std.proofs.Common.{◌≡◌, take}
 use Rattle.lists.specs.Places.{without}
 use Rattle.lists.specs.Sums.{any}
 use Rattle.rules.specs.Handles.{in_role, is_exclusive_initiator, is_exclusive_follower, is_passthrough, is_follower}

@@ -1,4 +1,4 @@
-use Rattle.std.proofs.Common.{◌-◌, ◌≡◌, ◌≤◌, false}
+use Rattle.std.proofs.Common.{◌≡◌, false}
 use Rattle.lists.specs.Sums.{any}
 use Rattle.queue.specs.Queue.{queued_from}
 use Rattle.transmission.specs.Transmission.{numbered}

@@ -1,4 +1,4 @@
-use Rattle.std.proofs.Common.{◌-◌, ◌*◌, ◌≡◌, ◌≤◌}
+use Rattle.std.proofs.Common.{◌*◌, ◌≡◌, ◌≤◌}
 use Rattle.lists.specs.Sums.{sum}
 use Rattle.queue.specs.Queue.{queued_from}
 use Rattle.transmission.specs.Transmission.{room_for, reply_for}

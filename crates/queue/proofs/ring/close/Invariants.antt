@@ -1,4 +1,4 @@
-use Rattle.std.proofs.Common.{◌-◌, ◌≡◌, ◌≤◌}
+use Rattle.std.proofs.Common.{◌≡◌}
 use Rattle.queue.specs.Ring.{closed_slots, with_slots}
 use Rattle.queue.proofs.ring.close.Given as goal
 
