@@ -58,8 +58,7 @@ impl Handles {
     pub fn at(self, handle: u8) -> Handle
         ensures { result ≡ get_or (handles_of self) handle closed_handle }
     {
-        let h = handle as usize;
-        if h < 8 { self.slots[h] } else { closed() }
+        self.slots.get(handle as usize).copied().unwrap_or(closed())
     }
 
     // With another handle at a number; a number over 7 changes nothing.
@@ -67,10 +66,9 @@ impl Handles {
         ensures { handles_of result ≡ set (handles_of self) handle now }
     {
         let h = handle as usize;
-        if 8 <= h {
-            return self;
+        if h < 8 {
+            self.slots[h] = now;
         }
-        self.slots[h] = now;
         self
     }
 
@@ -79,14 +77,12 @@ impl Handles {
         ensures value { result ≡ first is_closed (handles_of self) }
         ensures upper_bound { result ≤ 8 }
     {
-        let mut i = 0;
-        while i < 8 {
-            if !self.slots[i].is_open {
+        for (i, slot) in self.slots.iter().enumerate() {
+            if !slot.is_open {
                 return i as u8;
             }
-            i += 1;
         }
-        8
+        NO_HANDLE
     }
 
     // Which roles all handles but one hold.
@@ -98,23 +94,18 @@ impl Handles {
         let mut exclusive_follower = false;
         let mut passthrough = false;
         let mut follower = false;
-        let mut i = 0;
-        while i < 8 {
-            let slot = self.slots[i];
+        for (i, slot) in self.slots.iter().enumerate() {
             let other = i != h;
-            exclusive_initiator = exclusive_initiator
-                | other & (slot.is_open & mode::is_exclusive_initiator(slot.mode));
-            exclusive_follower = exclusive_follower
-                | other & (slot.is_open & mode::is_exclusive_follower(slot.mode));
-            passthrough = passthrough | other & (slot.is_open & mode::is_passthrough(slot.mode));
-            follower = follower | other & (slot.is_open & mode::is_follower(slot.mode));
-            i += 1;
+            exclusive_initiator |= other & slot.is_open & mode::is_exclusive_initiator(slot.mode);
+            exclusive_follower |= other & slot.is_open & mode::is_exclusive_follower(slot.mode);
+            passthrough |= other & slot.is_open & mode::is_passthrough(slot.mode);
+            follower |= other & slot.is_open & mode::is_follower(slot.mode);
         }
         Roles {
-            exclusive_initiator: exclusive_initiator,
-            exclusive_follower: exclusive_follower,
-            passthrough: passthrough,
-            follower: follower,
+            exclusive_initiator,
+            exclusive_follower,
+            passthrough,
+            follower,
         }
     }
 

@@ -95,18 +95,13 @@ impl Queue {
         let n = ring::length(head, self.tail);
         let mut room = 0;
         let mut replies = 0;
-        let mut i = 0;
-        while i < n {
+        for i in 0..n {
             let at = ring::place_after(head, i);
             let one = self.slots[at].owed(handle);
             room += one.room;
             replies += one.replies;
-            i += 1;
         }
-        Owed {
-            room: room,
-            replies: replies,
-        }
+        Owed { room, replies }
     }
 
     pub fn has_sequence(self, sequence: u32) -> bool
@@ -114,13 +109,11 @@ impl Queue {
     {
         let head = self.head;
         let n = ring::length(head, self.tail);
-        let mut i = 0;
-        while i < n {
+        for i in 0..n {
             let at = ring::place_after(head, i);
             if self.slots[at].sequence == sequence {
                 return true;
             }
-            i += 1;
         }
         false
     }

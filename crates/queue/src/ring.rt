@@ -21,7 +21,7 @@ pub fn place_after(head: u32, n: u32) -> usize
     ensures value { result ≡ place (onward head n) }
     ensures upper_bound { result < 32 }
 {
-    place(std::num::wrapping_add_u32(head, n))
+    place(head.wrapping_add(n))
 }
 
 // How many are queued between two positions.
@@ -29,8 +29,7 @@ pub fn length(head: u32, tail: u32) -> u32
     ensures value { result ≡ held head tail }
     ensures upper_bound { result ≤ 18 }
 {
-    let n = std::num::wrapping_sub_u32(tail, head);
-    if n < LIMIT { n } else { LIMIT }
+    tail.wrapping_sub(head).min(LIMIT)
 }
 
 // Stored at the tail; a full queue stays.
@@ -41,7 +40,7 @@ pub fn put(mut queue: Queue, transmission: Transmission) -> Queue
     if length(queue.head, tail) < LIMIT {
         let at = place(tail);
         queue.slots[at] = transmission;
-        queue.tail = std::num::wrapping_add_u32(tail, 1);
+        queue.tail = tail.wrapping_add(1);
     }
     queue
 }
@@ -52,9 +51,9 @@ pub fn take(mut queue: Queue) -> Queue
 {
     let n = length(queue.head, queue.tail);
     if 0 < n {
-        let head = std::num::wrapping_add_u32(queue.head, 1);
+        let head = queue.head.wrapping_add(1);
         queue.head = head;
-        queue.tail = std::num::wrapping_add_u32(head, n - 1);
+        queue.tail = head.wrapping_add(n - 1);
     }
     queue
 }
@@ -65,11 +64,9 @@ pub fn close(mut queue: Queue, handle: u8) -> Queue
 {
     let head = queue.head;
     let n = length(head, queue.tail);
-    let mut i = 0;
-    while i < n {
+    for i in 0..n {
         let at = place_after(head, i);
         queue.slots[at] = queue.slots[at].orphaned(handle);
-        i += 1;
     }
     queue
 }

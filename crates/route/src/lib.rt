@@ -46,8 +46,8 @@ pub fn between(first: u16, second: u16) -> Route
     let on_path = ancestor == first;
     Route {
         errno: 0,
-        ancestor: ancestor,
-        on_path: on_path,
+        ancestor,
+        on_path,
         port: port(first, second, on_path),
     }
 }

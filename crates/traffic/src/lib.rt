@@ -16,7 +16,7 @@ use wire::Wire;
 fn next_after(last: u32) -> u32
     ensures { result ≡ candidate last 0 }
 {
-    if last < 4294967295 { last + 1 } else { 1 }
+    last.checked_add(1).unwrap_or(1)
 }
 
 // What is owed to a handle: room for entries, and replies.
@@ -47,13 +47,11 @@ pub fn next_sequence(queue: Queue, wire: Wire, waits: Waits, last: u32) -> u32
 {
     let tries = wire.count() + queue.count() + waits.count();
     let mut sequence = next_after(last);
-    let mut i = 0;
-    while i < tries {
+    for _i in 0..tries {
         if !is_live(queue, wire, waits, sequence) {
             return sequence;
         }
         sequence = next_after(sequence);
-        i += 1;
     }
     sequence
 }

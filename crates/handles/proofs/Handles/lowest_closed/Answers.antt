@@ -5,8 +5,8 @@ use Rattle.rules.specs.State.{closed_handle}
 use Rattle.handles.specs.Roles.{is_closed}
 use Rattle.handles.proofs.Handles.lowest_closed.Goals as goal
 
-pub returns-then-not-self-i-clause-value : goal.returns-then-not-self-i-clause-value
-returns-then-not-self-i-clause-value c =
+pub returns-then-not-slot-clause-value : goal.returns-then-not-slot-clause-value
+returns-then-not-slot-clause-value c =
     let x = c.args.self in
     let t = take_all 8 x.slots (omega arith) in
-    sym (rw t at (first_here is_closed x.slots c.loop-i.i 8 closed_handle (omega arith) (omega arith) c.loop-i.invariant.none_before (ap not c.if-not-self-i.true)))
+    sym (rw t at (first_here is_closed x.slots c.loop-i.i 8 closed_handle (omega arith) (omega arith) c.loop-i.invariant (ap not c.if-not-slot.true)))

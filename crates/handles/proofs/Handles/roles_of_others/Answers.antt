@@ -11,7 +11,6 @@ loop-i-preserved c =
     let l = c.loop-i in
     let within : l.i < length x.slots = omega arith in
     record {
-      within = omega arith;
       exclusive_initiator = role_next is_exclusive_initiator x.slots h l.i _ _ within l.invariant.exclusive_initiator c.is_exclusive_initiator.ensures;
       exclusive_follower = role_next is_exclusive_follower x.slots h l.i _ _ within l.invariant.exclusive_follower c.is_exclusive_follower.ensures;
       passthrough = role_next is_passthrough x.slots h l.i _ _ within l.invariant.passthrough c.is_passthrough.ensures;

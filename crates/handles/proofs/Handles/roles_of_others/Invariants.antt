@@ -1,5 +1,5 @@
 -- Each role, of the handles before the next but the one.
-use Rattle.std.proofs.Common.{◌≡◌, ◌≤◌, ◌-◌, take}
+use Rattle.std.proofs.Common.{◌≡◌, take}
 use Rattle.lists.specs.Places.{without}
 use Rattle.lists.specs.Sums.{any}
 use Rattle.rules.specs.Handles.{in_role, is_exclusive_initiator, is_exclusive_follower, is_passthrough, is_follower}
@@ -7,12 +7,8 @@ use Rattle.handles.proofs.Handles.roles_of_others.Given as goal
 
 abbrev pub invariant-loop-i : goal.invariant-loop-i
 invariant-loop-i l = record {
-  within : l.i ≤ 8;
-  exclusive_initiator : l.exclusive_initiator ≡ any (in_role is_exclusive_initiator) (without l.handle (take l.i l.self.slots));
-  exclusive_follower : l.exclusive_follower ≡ any (in_role is_exclusive_follower) (without l.handle (take l.i l.self.slots));
-  passthrough : l.passthrough ≡ any (in_role is_passthrough) (without l.handle (take l.i l.self.slots));
-  follower : l.follower ≡ any (in_role is_follower) (without l.handle (take l.i l.self.slots));
+  exclusive_initiator : l.exclusive_initiator ≡ any (in_role is_exclusive_initiator) (without l.handle (take l.i l.fn.self.slots));
+  exclusive_follower : l.exclusive_follower ≡ any (in_role is_exclusive_follower) (without l.handle (take l.i l.fn.self.slots));
+  passthrough : l.passthrough ≡ any (in_role is_passthrough) (without l.handle (take l.i l.fn.self.slots));
+  follower : l.follower ≡ any (in_role is_follower) (without l.handle (take l.i l.fn.self.slots));
 }
-
-abbrev pub decreases-loop-i : goal.decreases-loop-i
-decreases-loop-i l = 8 - l.i

@@ -16,4 +16,4 @@ loop-i-preserved c =
     let q = c.args.self in
     let i = c.loop-i.i in
     let read = rw (c.place_after-at.ensures.value, place_read q.slots q.head i _ (search rules)) at c.if-self-at.false in
-    (omega arith, queued_passed (numbered c.args.sequence) q.head i q.slots c.loop-i.invariant.1 (ne_eqb _ _ read))
+    queued_passed (numbered c.args.sequence) q.head i q.slots c.loop-i.invariant (ne_eqb _ _ read)

@@ -11,7 +11,6 @@ loop-i-preserved c =
     let l = c.loop-i in
     let read = rw (c.place_after-at.ensures.value, place_read q.slots q.head l.i _ (search rules)) at c.owed-one.ensures.value in
     record {
-      within = omega arith;
       room_so_far = ap₂ ◌+◌ l.invariant.room_so_far (ap (λ (x : Owed). x.room) read) ∙ sym (queued_sum (room_for h) q.head l.i q.slots);
       replies_so_far = ap₂ ◌+◌ l.invariant.replies_so_far (ap (λ (x : Owed). x.replies) read) ∙ sym (queued_sum (reply_for h) q.head l.i q.slots);
       room_bound = omega arith;

@@ -1,9 +1,6 @@
-use Rattle.std.proofs.Common.{◌-◌, ◌≡◌, ◌≤◌}
+use Rattle.std.proofs.Common.{◌≡◌}
 use Rattle.queue.specs.Ring.{closed_slots, with_slots}
 use Rattle.queue.proofs.ring.close.Given as goal
 
 abbrev pub invariant-loop-i : goal.invariant-loop-i
-invariant-loop-i l = (l.i ≤ l.n) × (l.queue ≡ with_slots l.fn.queue (closed_slots l.handle l.fn.queue.head l.i l.fn.queue.slots))
-
-abbrev pub decreases-loop-i : goal.decreases-loop-i
-decreases-loop-i l = l.n - l.i
+invariant-loop-i l = l.queue ≡ with_slots l.fn.queue (closed_slots l.handle l.fn.queue.head l.i l.fn.queue.slots)
