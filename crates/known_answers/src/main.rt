@@ -7,7 +7,7 @@ use constants::{
     CEC_OP_CEC_VERSION_1_4, CEC_OP_CEC_VERSION_2_0, CEC_TX_STATUS_OK,
 };
 use entry::Counts;
-use message::Message;
+use message::{Message, reply};
 use queue::Queue;
 use request::Request;
 use settings::Settings;
@@ -268,10 +268,11 @@ fn arc_asked(length: u8, second: u8, third: u8) -> Adapter {
         .adapter
 }
 
-// The rule by which they are the reply.
+// The number of the rule by which they are the reply.
 fn arc_rule(length: u8, second: u8, third: u8) -> u32 {
     let sent = Message::new(2, three(0x40, 0xC0, 0));
-    Message::new(length, three(0x04, second, third)).reply_rule(sent, 0xC1) as u32
+    let came = Message::new(length, three(0x04, second, third));
+    u32::from(reply::number(came.reply_rule(sent, 0xC1)))
 }
 
 // What handle 0 received, with its times (W-208).

@@ -19,7 +19,7 @@ use Rattle.message.specs.Rule.{RULE-NONE, reply_rule, rule_number}
 use Rattle.message.specs.declared.Message.{Message}
 use Rattle.message.specs.declared.reply.Rule.{Rule}
 use Rattle.message.specs.declared.reply.Rule.TheVariants.{FeatureAbort, WantedOpcode, ArcPair}
-use Rattle.std.specs.Prelude.{Some, None}
+use Rattle.std.specs.Prelude.{Some}
 use Rattle.wait.specs.Wait.{no_wait, answered_by, rule_for}
 use Rattle.wait.specs.declared.Wait.{Wait}
 use Rattle.waits.specs.Waits.{NumberedMatch, match_in, numbered_match}

@@ -6,7 +6,6 @@ use Rattle.std.proofs.Common.{ap, sym, ◌∙◌, arith, suc-add, zero-add, lt-l
 use Rattle.std.proofs.lemmas.List.Edits.{take-paste}
 use Rattle.std.proofs.lemmas.List.Recursion.{is_count_by}
 use lib.ListN.{get_or-eq_default}
-use lib.Seq.{paste}
 use Rattle.lists.specs.Elements.{take_taken}
 use Rattle.lists.specs.Places.{without, without_past}
 use Rattle.lists.specs.Sums.{any, count}

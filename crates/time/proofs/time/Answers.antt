@@ -1,71 +1,53 @@
-use Rattle.std.proofs.Common.{List, map, arith, length, sym, ap, ◌∙◌}
-use Rattle.entry.specs.declared.Entry.{Entry}
-use Rattle.inbox.specs.Inboxes.{delivered}
-use Rattle.parts.proofs.Arrays.{Delivered, leaves, stores}
+use Rattle.std.proofs.Common.{◌+◌, ◌*◌, ◌∙◌, refl, sym, ap, set}
+use Rattle.parts.proofs.Arrays.{with_arrays, leaves, stores}
 use Rattle.parts.specs.Parts.{state_of}
+use Rattle.parts.specs.declared.Parts.{Parts}
 use Rattle.rules.proofs.Deliveries.{each_delivers}
 use Rattle.rules.specs.Call.{finish, Answer}
-use Rattle.rules.specs.State.{State, with_inboxes, with_waits}
+use Rattle.rules.specs.State.{with_waits}
 use Rattle.rules.specs.Time.{do_time, overdue, remaining, timeout_entry}
-use Rattle.time.proofs.Due.{due_of, others_of, same, due_next, due_none, others_next, others_none, elapsed_parts, no_waits}
-use Rattle.time.specs.Time.{timed_out_all}
-use Rattle.wait.specs.Wait.{reduced}
-use Rattle.waits.specs.Waits.{taken_of}
+use Rattle.time.proofs.Due.{Turns, with_new, turn, fewer, elapsed}
+use Rattle.waits.specs.Waits.{waits_of}
 use Rattle.time.proofs.time.Goals as goal
-use Rattle.time.proofs.time.Goals.{then-h-n, else-h-n}
 
-pub loop-ended-smaller : goal.loop-ended-smaller
-loop-ended-smaller c =
-    let next = due_next c.args.ms (taken_of c.loop-ended.ended) (taken_of c.take_due-ended-in-loop-ended.result) c.loop-ended-test.true c.take_due-ended-in-loop-ended.ensures in
-    omega (arith, ap length next)
+pub loop-wait-smaller-then-h-n : goal.loop-wait-smaller-then-h-n
+loop-wait-smaller-then-h-n c = fewer c.args.ms (waits_of c.loop-wait.parts.waits) (waits_of c.take_due.new.self) c.in-Some.wait c.in-Some.ensures
 
-pub loop-ended-preserved : goal.loop-ended-preserved
-loop-ended-preserved c =
-    let l = c.loop-ended in
-    let ms = c.args.ms in
-    let s = state_of c.args.parts in
-    let t = taken_of l.ended in
-    let u = taken_of c.take_due-ended-in-loop-ended.result in
-    let first = c.take_due-ended-in-loop-ended.ensures in
-    let found = c.loop-ended-test.true in
-    let p = l.parts in
-    let q = c.if-h-n.parts in
-    let h = t.wait.owner in
-    let e = timeout_entry t.wait in
+pub loop-wait-smaller : goal.loop-wait-smaller
+loop-wait-smaller c = fewer c.args.ms (waits_of c.loop-wait.parts.waits) (waits_of c.take_due.new.self) c.in-Some.wait c.in-Some.ensures
+
+pub loop-wait-preserved-then-h-n : goal.loop-wait-preserved-then-h-n
+loop-wait-preserved-then-h-n c =
+    let a = c.args in
+    let l = c.loop-wait in
+    let w = c.in-Some.wait in
+    let h = w.owner in
     let n = c.count_at-n in
-    let told : Delivered p h e q =
-    elim c.if-h-n.branch [
-      | then-h-n w ↦ stores p l.invariant.0 h n.result n.ensures.value e q _ w.if-h-n.true w.timed_out.ensures w.parts-is
-      | else-h-n w ↦ leaves p l.invariant.0 h n.result n.ensures.value e q w.if-h-n.false w.parts-is
-    ] in
-    let boxes = ap (λ (x : State). x.inboxes) told.state in (
-      told.long,
-      ap (λ (is : List (List Entry)). timed_out_all is (due_of ms u)) boxes
-          ∙ ap (timed_out_all (state_of p).inboxes) (sym (due_next ms t u found first))
-          ∙ l.invariant.1,
-      sym (others_next ms t u found first) ∙ l.invariant.2,
-      told.state
-          ∙ ap (λ (x : State). with_inboxes x (delivered (state_of p).inboxes h e)) l.invariant.3
-          ∙ ap (with_inboxes s) (sym boxes),
-    )
+    let p : Parts = with_new l.parts c.take_due.new.self in
+    let q : Parts = with_arrays p (set p.entries (16 * h + n.result) c.timed_out.result) (set p.counts h (n.result + 1)) in
+    let before : Turns a.ms a.parts l.parts = record { long = l.invariant.long; boxes = l.invariant.boxes; rest = l.invariant.rest; state = l.invariant.state } in
+    let told = stores p l.invariant.long h n.result n.ensures.value (timeout_entry w) q c.timed_out.result c.if-h-n.true c.timed_out.ensures refl in
+    let t = turn a.ms a.parts l.parts q w c.take_due.new.self before c.in-Some.ensures told in
+    record { long = t.long; boxes = t.boxes; rest = t.rest; state = t.state }
 
-pub returns-after-loop-ended : goal.returns-after-loop-ended
+pub loop-wait-preserved : goal.loop-wait-preserved
+loop-wait-preserved c =
+    let a = c.args in
+    let l = c.loop-wait in
+    let w = c.in-Some.wait in
+    let n = c.count_at-n in
+    let p : Parts = with_new l.parts c.take_due.new.self in
+    let before : Turns a.ms a.parts l.parts = record { long = l.invariant.long; boxes = l.invariant.boxes; rest = l.invariant.rest; state = l.invariant.state } in
+    let told = leaves p l.invariant.long w.owner n.result n.ensures.value (timeout_entry w) p c.if-h-n.false refl in
+    let t = turn a.ms a.parts l.parts p w c.take_due.new.self before c.in-Some.ensures told in
+    record { long = t.long; boxes = t.boxes; rest = t.rest; state = t.state }
+
+pub returns : goal.returns
 unfolding do_time
-returns-after-loop-ended c =
+returns c =
     let a = c.args in
     let s = state_of a.parts in
-    let l = c.loop-ended in
-    let t = taken_of l.ended in
-    let none = c.loop-ended-test.false in
-    let first = c.take_due-ended.ensures in
-    let before = same a.ms s.waits in
-    let boxes =
-    ap (timed_out_all (state_of l.parts).inboxes) (sym (due_none a.ms t none))
-    ∙ l.invariant.1
-    ∙ ap (timed_out_all s.inboxes) (ap (due_of a.ms) first ∙ before.due) in
-    let waits = c.reduced-parts.ensures ∙ ap (map (reduced a.ms)) (sym (others_none a.ms t none) ∙ l.invariant.2 ∙ ap (others_of a.ms) first ∙ before.rest) in
+    let l = c.loop-wait in
+    let before : Turns a.ms a.parts l.parts = record { long = l.invariant.long; boxes = l.invariant.boxes; rest = l.invariant.rest; state = l.invariant.state } in
     let all = each_delivers (λ w. w.owner) timeout_entry (with_waits s (remaining a.ms s.waits)) (overdue a.ms s.waits) in
-    ap (finish Answer.done) (elapsed_parts s (state_of l.parts) (state_of l.parts).inboxes _ _ _ l.invariant.3 boxes waits ∙ sym all)
-
-pub returns-else-count-gt0 : goal.returns-else-count-gt0
-returns-else-count-gt0 c = no_waits (state_of c.args.parts) c.args.ms (omega (arith, c.count.ensures.value))
+    ap (finish Answer.done) (elapsed a.ms a.parts l.parts c.take_due.new.self c.reduced-parts.result before c.in_default.ensures c.reduced-parts.ensures ∙ sym all)

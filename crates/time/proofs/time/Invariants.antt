@@ -1,18 +1,20 @@
 use Rattle.std.proofs.Common.{◌≡◌, length}
 use Rattle.parts.proofs.Arrays.{LongParts}
 use Rattle.parts.specs.Parts.{state_of}
-use Rattle.rules.specs.State.{with_inboxes}
-use Rattle.time.proofs.Due.{due_of, others_of}
+use Rattle.rules.specs.State.{with_inboxes, with_waits}
+use Rattle.rules.specs.Time.{overdue}
+use Rattle.time.proofs.Due.{others}
 use Rattle.time.specs.Time.{timed_out_all}
-use Rattle.waits.specs.Waits.{taken_of}
+use Rattle.waits.specs.Waits.{waits_of}
 use Rattle.time.proofs.time.Given as goal
 
-abbrev pub invariant-loop-ended : goal.invariant-loop-ended
-invariant-loop-ended l =
-    LongParts l.parts
-    × (timed_out_all (state_of l.parts).inboxes (due_of l.ms (taken_of l.ended)) ≡ timed_out_all (state_of l.initial.parts).inboxes (due_of l.ms (taken_of l.initial.ended)))
-    × (others_of l.ms (taken_of l.ended) ≡ others_of l.ms (taken_of l.initial.ended))
-    × (state_of l.parts ≡ with_inboxes (state_of l.initial.parts) (state_of l.parts).inboxes)
+abbrev pub invariant-loop-wait : goal.invariant-loop-wait
+invariant-loop-wait l = record {
+  long : LongParts l.parts;
+  boxes : timed_out_all (state_of l.parts).inboxes (overdue l.ms (waits_of l.parts.waits)) ≡ timed_out_all (state_of l.initial.parts).inboxes (overdue l.ms (waits_of l.initial.parts.waits));
+  rest : others l.ms (waits_of l.parts.waits) ≡ others l.ms (waits_of l.initial.parts.waits);
+  state : state_of l.parts ≡ with_inboxes (with_waits (state_of l.initial.parts) (waits_of l.parts.waits)) (state_of l.parts).inboxes;
+}
 
-abbrev pub decreases-loop-ended : goal.decreases-loop-ended
-decreases-loop-ended l = length (due_of l.ms (taken_of l.ended))
+abbrev pub decreases-loop-wait : goal.decreases-loop-wait
+decreases-loop-wait l = length (overdue l.ms (waits_of l.parts.waits))
