@@ -11,7 +11,7 @@ use message::Message;
 
 // How often each thing went wrong on the wire.
 #[repr(C)]
-#[derive(Clone, Copy)]
+#[derive(Clone, Copy, Default)]
 pub struct Counts {
     pub arb_lost: u8,
     pub nack: u8,
@@ -37,12 +37,7 @@ impl Counts {
     pub fn none() -> Counts
         ensures { result ≡ no_counts }
     {
-        Counts {
-            arb_lost: 0,
-            nack: 0,
-            low_drive: 0,
-            error: 0,
-        }
+        Counts::default()
     }
 }
 
@@ -52,13 +47,13 @@ impl Entry {
         ensures { result ≡ result_entry sequence status counts sent tx_ts }
     {
         Entry {
-            sequence: sequence,
+            sequence,
             tx_status: status,
             rx_status: 0,
             message: sent,
-            counts: counts,
+            counts,
             reply: 0,
-            tx_ts: tx_ts,
+            tx_ts,
             rx_ts: 0,
         }
     }
@@ -82,14 +77,14 @@ impl Entry {
         ensures { result ≡ rx_entry sequence status message reply tx_ts rx_ts }
     {
         Entry {
-            sequence: sequence,
+            sequence,
             tx_status: 0,
             rx_status: status,
-            message: message,
+            message,
             counts: Counts::none(),
-            reply: reply,
-            tx_ts: tx_ts,
-            rx_ts: rx_ts,
+            reply,
+            tx_ts,
+            rx_ts,
         }
     }
 
