@@ -64,7 +64,7 @@ pub fn close(adapter: Adapter, r: [u8; 28]) -> Played
 pub fn mode(adapter: Adapter, r: [u8; 28]) -> Played
     ensures { played_of result ≡ effect (state_of adapter) (mode_of r) }
 {
-    of_done(adapter.set_mode(r[1], number_4(r[2], r[3], r[4], r[5])))
+    of_done(adapter.set_mode(r[1], number_4([r[2], r[3], r[4], r[5]])))
 }
 
 pub fn transmit(adapter: Adapter, r: [u8; 28]) -> Played
@@ -98,20 +98,20 @@ pub fn start(adapter: Adapter) -> Played
 pub fn result(adapter: Adapter, r: [u8; 28]) -> Played
     ensures { played_of result ≡ effect (state_of adapter) (result_of r) }
 {
-    let ts = number_8(r[6], r[7], r[8], r[9], r[10], r[11], r[12], r[13]);
+    let ts = number_8([r[6], r[7], r[8], r[9], r[10], r[11], r[12], r[13]]);
     of_done(adapter.bus_result(r[1], counts_of(r), ts))
 }
 
 pub fn time(adapter: Adapter, r: [u8; 28]) -> Played
     ensures { played_of result ≡ effect (state_of adapter) (call_time (number_at r 1 4)) }
 {
-    of_done(adapter.time_passed(number_4(r[1], r[2], r[3], r[4])))
+    of_done(adapter.time_passed(number_4([r[1], r[2], r[3], r[4]])))
 }
 
 pub fn message(adapter: Adapter, r: [u8; 28]) -> Played
     ensures { played_of result ≡ effect (state_of adapter) (incoming_of r) }
 {
-    let ts = number_8(r[18], r[19], r[20], r[21], r[22], r[23], r[24], r[25]);
+    let ts = number_8([r[18], r[19], r[20], r[21], r[22], r[23], r[24], r[25]]);
     of_done(adapter.received(r[1], message_bytes(r), ts))
 }
 
