@@ -173,12 +173,7 @@ impl Adapter {
         ensures result_value { done_of result ≡ step (state_of self) (call_bus_result status counts ts) }
         ensures value { result.errno ≢ 0 → result ≡ refused_call self result.errno }
     {
-        let ended = bus_result::bus_result(self.parts, status, counts, ts);
-        let parts = ended.parts;
-        Done {
-            adapter: Adapter { parts: parts },
-            errno: ended.errno,
-        }
+        self.done(bus_result::bus_result(self.parts, status, counts, ts))
     }
 
     // A message came from the wire, at a time in nanoseconds.
@@ -221,12 +216,7 @@ impl Adapter {
     pub fn unconfigure(self) -> Done
         ensures { done_of result ≡ step (state_of self) call_unconfigure }
     {
-        let unconfigured = unconfigure::unconfigure(self.parts);
-        let parts = unconfigured.parts;
-        Done {
-            adapter: Adapter { parts: parts },
-            errno: unconfigured.errno,
-        }
+        self.done(Ok(unconfigure::unconfigure(self.parts)))
     }
 
     // The handle's row in the listing; crate `listing` fills a lent table with them.

@@ -7,9 +7,9 @@ ghost use Rattle.rules.specs.Call.{check};
 ghost use Rattle.rules.specs.Clock.{clock_refusal};
 ghost use Rattle.rules.specs.Handles.{handle_at, is_open, is_configured, is_own};
 ghost use Rattle.rules.specs.State.{fresh, no_settings, none_noted, with_inboxes};
-ghost use Rattle.parts.specs.Parts.{boxes_of, state_of};
+ghost use Rattle.parts.specs.Parts.{boxes_of, state_of, errno_of};
 
-use constants::{CEC_LOG_ADDR_UNREGISTERED, CEC_PHYS_ADDR_INVALID, EINVAL};
+use constants::{CEC_LOG_ADDR_UNREGISTERED, CEC_PHYS_ADDR_INVALID, EINVAL, Errno};
 use entry::Entry;
 use handle::Handle;
 use handles::Handles;
@@ -56,6 +56,17 @@ pub fn check(refused: bool, errno: u32, later: u32) -> u32
 }
 
 // The last check of a bus result and of a message: a time may not be before that of the last one.
+#[tactic(auto, unfolding(rules::specs::Call::check))]
+pub fn check_time(clock: u64, ts: u64) -> Result<(), Errno>
+    ensures { errno_of result ≡ clock_refusal clock ts }
+{
+    if ts < clock {
+        return Err(Errno::EINVAL);
+    }
+    Ok(())
+}
+
+// The same as a number.
 pub fn clock_errno(clock: u64, ts: u64) -> u32
     ensures { result ≡ clock_refusal clock ts }
 {

@@ -3,8 +3,9 @@ use Rattle.bus_result.proofs.Concluded.{begun_taken, begun_left, concluded_parts
 use Rattle.entry.specs.declared.Counts.{Counts}
 use Rattle.entry.specs.declared.Entry.{Entry}
 use Rattle.parts.proofs.Arrays.{Delivered, LongParts, leaves, stores}
-use Rattle.parts.proofs.Outcomes.{refused_outcome, taken_outcome}
-use Rattle.parts.specs.Parts.{or_refused, state_of}
+use Rattle.parts.proofs.Outcomes.{accepted_call, refused_call}
+use Rattle.std.proofs.lemmas.Result.{err_from_is_err_and}
+use Rattle.parts.specs.Parts.{state_of}
 use Rattle.rules.specs.BusResult.{begun, concluded, do_bus_result}
 use Rattle.rules.specs.Call.{Answer, finish}
 use Rattle.rules.specs.Deliver.{deliver}
@@ -52,7 +53,7 @@ module _ (c : After-is_ok) where
   ends : (wire : List Transmission) (waits : List Wait) → let a = c.args in
       wire ≡ drop 1 (state_of c.if-h-n.parts).wire
       → waits ≡ begun a.status c.head-sent.result a.ts (state_of c.if-h-n.parts).waits
-      → finish (or_refused c.bus_result_errno-errno.result Answer.done) (with_clock (with_waits (with_wire (state_of c.if-h-n.parts) wire) waits) a.ts)
+      → finish Answer.done (with_clock (with_waits (with_wire (state_of c.if-h-n.parts) wire) waits) a.ts)
       ≡ do_bus_result (state_of a.parts) a.status a.counts a.ts
   unfolding do_bus_result
   ends wire waits q r =
@@ -61,21 +62,21 @@ module _ (c : After-is_ok) where
       let sent = c.head-sent.result in
       let both = told.state ∙ ap (λ (x : State). deliver x sent.owner answer) copied in
       let all = concluded_parts s sent a.status c.kept_counts-kept.result a.ts (state_of c.if-h-n.parts) wire waits both q r in
-      taken_outcome s _ _ _ _ _ c.bus_result_errno-errno.ensures c.if-errno-eq0.true
-      (ap (λ (x : State). finish Answer.done (with_clock x a.ts)) (all ∙ ap₂ (λ (t : Transmission) (k : Counts). concluded s t a.status k a.ts) c.head-sent.ensures c.kept_counts-kept.ensures))
+      ap (λ (x : State). finish Answer.done (with_clock x a.ts)) (all ∙ ap₂ (λ (t : Transmission) (k : Counts). concluded s t a.status k a.ts) c.head-sent.ensures c.kept_counts-kept.ensures)
+      ∙ accepted_call s _ _ _ _ c.in_ok-check.was c.check.ensures
 
-pub returns-then-is_ok-sent-clause-result_value : goal.returns-then-is_ok-sent-clause-result_value
-returns-then-is_ok-sent-clause-result_value c =
-    let d = (goal.at.returns-then-is_ok-sent-clause-result_value c).After-is_ok in
+pub returns-then-is_ok-sent : goal.returns-then-is_ok-sent
+returns-then-is_ok-sent c =
+    let d = (goal.at.returns-then-is_ok-sent c).After-is_ok in
     let waits = begun_taken c.args.status c.head-sent.result c.args.ts (state_of c.if-h-n.parts).waits _ c.is_ok.ensures _ c.if-is_ok-sent.true c.wait_for.ensures in
     ends d _ _ c.without_head-parts.ensures (c.put-parts.ensures ∙ waits)
 
-pub returns-else-is_ok-sent-clause-result_value : goal.returns-else-is_ok-sent-clause-result_value
-returns-else-is_ok-sent-clause-result_value c =
-    let d = (goal.at.returns-else-is_ok-sent-clause-result_value c).After-is_ok in
+pub returns-else-is_ok-sent : goal.returns-else-is_ok-sent
+returns-else-is_ok-sent c =
+    let d = (goal.at.returns-else-is_ok-sent c).After-is_ok in
     let waits = begun_left c.args.status c.head-sent.result c.args.ts (state_of c.if-h-n.parts).waits _ c.is_ok.ensures c.if-is_ok-sent.false in
     ends d _ _ c.without_head-parts.ensures waits
 
-pub returns-else-errno-eq0-clause-result_value : goal.returns-else-errno-eq0-clause-result_value
+pub returns-in_err-check : goal.returns-in_err-check
 unfolding do_bus_result
-returns-else-errno-eq0-clause-result_value c = refused_outcome (state_of c.args.parts) _ _ _ _ c.bus_result_errno-errno.ensures c.if-errno-eq0.false
+returns-in_err-check c = refused_call _ _ _ _ _ _ _ c.in_err-check.was c.check.ensures (err_from_is_err_and _ c.from_residual.ensures.1)
