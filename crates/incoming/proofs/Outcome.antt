@@ -1,8 +1,9 @@
 -- What a message from the wire comes to, from what each statement does to the parts.
 -- Assumes nothing.
-use Rattle.std.proofs.Common.{◌≡◌, ℕ, Bool, true, false, cond, not, ◌&&◌, eqb, ◌≢◌, List, sym, refl, ap, ◌∙◌, ap₂, ne_eqb, eqb-true}
+use Rattle.std.proofs.Common.{◌≡◌, ℕ, Bool, true, false, cond, not, ◌&&◌, eqb, ◌≢◌, List, sym, refl, ap, ◌∙◌, ap₂, ne_eqb, eqb-true, Option, Some, None}
 use borrow.Author.Tests.{eqb-false}
-use Rattle.copies.specs.Kinds.{gets_copies, NOBODY}
+use Rattle.copies.specs.Kinds.{gets_copies}
+use Rattle.copies.specs.declared.Receivers.{Receivers}
 use Rattle.entry.specs.Entry.{message_copy}
 use Rattle.entry.specs.declared.Entry.{Entry}
 use Rattle.inbox.specs.Inboxes.{delivered}
@@ -42,7 +43,7 @@ copied_change p r f e nothing s n = (
   λ z. ap (λ (x : Parts). with_changed p x.handles x.counts x.entries p.active p.clock) (n z),
 )
 
-outcome : (errno length : ℕ) (bytes : List ℕ) (ts : ℕ) (m : Message) (active clock : ℕ) (here : Bool) (kind : ℕ) (x : ToDo) (p0 p1 p2 p3 p4 p5 : Parts)
+outcome : (errno length : ℕ) (bytes : List ℕ) (ts : ℕ) (m : Message) (active clock : ℕ) (here : Bool) (kind : Option Receivers) (x : ToDo) (p0 p1 p2 p3 p4 p5 : Parts)
     → errno ≡ incoming_refusal p0.clock length ts
     → m ≡ message length bytes
     → active ≡ cond (eqb errno 0) (active_after_message (state_of p0) m) p0.active
@@ -50,11 +51,11 @@ outcome : (errno length : ℕ) (bytes : List ℕ) (ts : ℕ) (m : Message) (acti
     → here ≡ is_here (state_of p0) (destination m.bytes)
     → kind ≡ receivers_of (eqb errno 0) (state_of p0).handles (monitor_kind here)
     → x ≡ to_do_of (state_of p1) (eqb errno 0 && goes_on (state_of p1) m) m
-    → Change p0 (copies (in_role (gets_copies kind)) (message_copy m ts) (state_of p0)) (kind ≡ NOBODY) p1
+    → Change p0 (copies (in_role (gets_copies kind)) (message_copy m ts) (state_of p0)) (kind ≡ None) p1
     → Change p1 (do_reply x m ts (state_of p1)) (x.rule ≡ RULE-NONE) p2
     → Change p2 (do_note x m (state_of p2)) (x.notes ≡ false) p3
-    → Change p3 (do_send x (state_of p3)) (x.sends ≡ false) p4
-    → Change p4 (do_copies x m ts (state_of p4)) (x.followers ≡ NOBODY) p5
+    → Change p3 (do_send x (state_of p3)) (x.sends ≡ None) p4
+    → Change p4 (do_copies x m ts (state_of p4)) (x.followers ≡ None) p5
     → (done_of (record { parts = moved_parts p5 active clock; errno = errno }) ≡ do_message (state_of p0) length bytes ts) × (errno ≢ 0 → moved_parts p5 active clock ≡ p0)
 unfolding do_message
 outcome errno length bytes ts m active clock here kind x p0 p1 p2 p3 p4 p5 refusal made tracks ticks at monitored todo c1 c2 c3 c4 c5 =
@@ -72,9 +73,9 @@ outcome errno length bytes ts m active clock here kind x p0 p1 p2 p3 p4 p5 refus
     let all : state_of p5 ≡ do_all x m ts u = c5.0 ∙ ap (do_copies x m ts) (c4.0 ∙ ap (do_send x) (c3.0 ∙ ap (do_note x m) c2.0)) in
     let copied : eqb errno 0 ≡ true → u ≡ copies (in_role (monitors s m)) e s =
     λ f. c1.0
-    ∙ ap (λ (k : ℕ). copies (in_role (gets_copies k)) e s) monitored
+    ∙ ap (λ (k : Option Receivers). copies (in_role (gets_copies k)) e s) monitored
     ∙ receivers_copies (eqb errno 0) (monitor_kind here) e s
-    ∙ ap (λ (b : Bool). cond b (copies (in_role (gets_copies (monitor_kind here))) e s) s) f
+    ∙ ap (λ (b : Bool). cond b (copies (in_role (gets_copies (Some (monitor_kind here)))) e s) s) f
     ∙ monitors_same s m here e at in
     let heard_all : eqb errno 0 ≡ true → state_of p5 ≡ heard s m ts =
     λ f. heard_all_lem s u (state_of p5) m ts (copied f)
@@ -103,11 +104,11 @@ by_arrival a s n bytes ts e = rw e (refl, refl, refl, refl, refl)
 module _ (a : Arrival) (n : ℕ) (bytes : List ℕ) (ts : ℕ) (x : ToDo) (p0 p1 p2 p3 p4 p5 : Parts) where
   pub message_outcome : a ≡ arrival_of (state_of p0) n bytes ts
       → x ≡ to_do_of (state_of p1) (eqb a.errno 0 && goes_on (state_of p1) a.message) a.message
-      → Change p0 (copies (in_role (gets_copies a.monitors)) (message_copy a.message ts) (state_of p0)) (a.monitors ≡ NOBODY) p1
+      → Change p0 (copies (in_role (gets_copies a.monitors)) (message_copy a.message ts) (state_of p0)) (a.monitors ≡ None) p1
       → Change p1 (do_reply x a.message ts (state_of p1)) (x.rule ≡ RULE-NONE) p2
       → Change p2 (do_note x a.message (state_of p2)) (x.notes ≡ false) p3
-      → Change p3 (do_send x (state_of p3)) (x.sends ≡ false) p4
-      → Change p4 (do_copies x a.message ts (state_of p4)) (x.followers ≡ NOBODY) p5
+      → Change p3 (do_send x (state_of p3)) (x.sends ≡ None) p4
+      → Change p4 (do_copies x a.message ts (state_of p4)) (x.followers ≡ None) p5
       → (done_of (record { parts = moved_parts p5 a.active a.clock; errno = a.errno }) ≡ do_message (state_of p0) n bytes ts) × (a.errno ≢ 0 → moved_parts p5 a.active a.clock ≡ p0)
   message_outcome e todo =
       let s = state_of p0 in

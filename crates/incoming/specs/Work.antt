@@ -1,8 +1,7 @@
 -- A message as it comes, and what is to be done with it in steps 3 to 6, from the state after the monitors' copies (document 01, "A message from the wire").
 -- Assumes nothing.
-use Rattle.std.specs.Prelude.{ℕ, Bool, cond, ◌&&◌, ◌||◌, List, ◌==◌}
-use Rattle.constants.specs.Kernel.{CEC-OP-ABORT-UNRECOGNIZED-OP}
-use Rattle.core_answers.specs.Work.{abort_of, message_of, work_of}
+use Rattle.std.specs.Prelude.{ℕ, Bool, cond, ◌&&◌, List, ◌==◌, None}
+use Rattle.core_answers.specs.Work.{work_of}
 use Rattle.incoming.specs.Steps.{follower_kind, monitor_kind, receivers_of}
 use Rattle.incoming.specs.declared.Arrival.{Arrival}
 use Rattle.incoming.specs.declared.ToDo.{ToDo}
@@ -43,8 +42,7 @@ to_do_at s further m t x = record {
   place = first (answered_by m) s.waits;
   wait = t.wait;
   notes = further && x.notes;
-  sends = further && (x.answers || x.aborts) && s.capabilities.transmit;
-  answer = cond x.aborts (message_of (abort_of m CEC-OP-ABORT-UNRECOGNIZED-OP)) (work_of s.settings m).answer;
+  sends = cond (further && s.capabilities.transmit) x.sends None;
   followers = receivers_of (further && x.copies) s.handles (follower_kind x.exclusive);
 }
 

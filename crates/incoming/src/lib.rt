@@ -12,7 +12,7 @@ ghost use Rattle.incoming.specs.Work.{arrival_of, to_do_of};
 mod step;
 
 use constants::{CEC_LOG_ADDR_BROADCAST, EINVAL};
-use copies::{EXCLUSIVE_FOLLOWER, FOLLOWERS, MONITORS, MONITORS_OF_ALL, NOBODY};
+use copies::Receivers;
 use entry::Entry;
 use inbox::count_at;
 use message::Message;
@@ -28,19 +28,18 @@ struct Arrival {
     message: Message,
     active: u16,
     clock: u64,
-    monitors: u8,
+    monitors: Option<Receivers>,
 }
 
-// What is to be done in steps 3 to 6: by which rule the wait at a place ends with a reply, if any does, whether an address is noted, whether the core sends a message, and who gets copies.
+// What is to be done in steps 3 to 6: by which rule the wait at a place ends with a reply, if any does, whether an address is noted, what the core sends, and who gets copies.
 #[derive(Clone, Copy)]
 struct ToDo {
     rule: u8,
     place: usize,
     wait: Wait,
     notes: bool,
-    sends: bool,
-    answer: Message,
-    followers: u8,
+    sends: Option<Message>,
+    followers: Option<Receivers>,
 }
 
 fn message_errno(clock: u64, length: u8, ts: u64) -> u32
@@ -60,20 +59,24 @@ fn is_here(parts: Parts, address: u8) -> bool
 }
 
 // Which monitors see a message: all of them if it goes to 15 or an own address.
-fn monitor_kind(here: bool) -> u8
+fn monitor_kind(here: bool) -> Receivers
     ensures { result ≡ monitor_kind here }
 {
-    if here { MONITORS } else { MONITORS_OF_ALL }
+    if here {
+        Receivers::Monitors
+    } else {
+        Receivers::MonitorsOfAll
+    }
 }
 
 // Who gets the copy for followers: the exclusive follower, if there is one.
-fn follower_kind(exclusive: bool) -> u8
+fn follower_kind(exclusive: bool) -> Receivers
     ensures { result ≡ follower_kind exclusive }
 {
     if exclusive {
-        EXCLUSIVE_FOLLOWER
+        Receivers::ExclusiveFollower
     } else {
-        FOLLOWERS
+        Receivers::Followers
     }
 }
 
@@ -98,10 +101,13 @@ fn later_steps(parts: Parts, further: bool, message: Message) -> ToDo
     ToDo {
         rule: step::rule(further, oldest.rule),
         place: oldest.place,
-        wait: wait,
+        wait,
         notes: further & chosen.notes,
-        sends: further & (chosen.answers | chosen.aborts) & parts.can_transmit,
-        answer: step::sent(chosen.aborts, work.answer, message),
+        sends: if further & parts.can_transmit {
+            chosen.sends
+        } else {
+            None
+        },
         followers: step::receivers(
             further & chosen.copies,
             handles,
@@ -137,8 +143,8 @@ fn arrived(parts: Parts, length: u8, bytes: [u8; 16], ts: u64) -> Arrival
     let handles = parts.handles;
     let here = is_here(parts, message.destination());
     Arrival {
-        errno: errno,
-        message: message,
+        errno,
+        message,
         active: active_after(parts, errno == 0, message),
         clock: clock_after(parts.clock, errno == 0, ts),
         monitors: step::receivers(errno == 0, handles, monitor_kind(here)),
@@ -152,7 +158,7 @@ pub fn message(mut parts: Parts, length: u8, bytes: [u8; 16], ts: u64) -> Done
 {
     let came = arrived(parts, length, bytes, ts);
     let message = came.message;
-    if came.monitors != NOBODY {
+    if came.monitors.is_some() {
         parts = copies::copies(parts, came.monitors, Entry::message_copy(message, ts));
     }
     let to_do = later_steps(parts, (came.errno == 0) & goes_on(parts, message), message);
@@ -168,10 +174,10 @@ pub fn message(mut parts: Parts, length: u8, bytes: [u8; 16], ts: u64) -> Done
     if to_do.notes {
         parts.noted = step::noted(parts.noted, message);
     }
-    if to_do.sends {
-        parts.queue = parts.queue.put(Transmission::ownerless(to_do.answer));
+    if let Some(sent) = to_do.sends {
+        parts.queue = parts.queue.put(Transmission::ownerless(sent));
     }
-    if to_do.followers != NOBODY {
+    if to_do.followers.is_some() {
         let copied = copies::copies(parts, to_do.followers, Entry::message_copy(message, ts));
         let handles = copied.handles;
         let counts = copied.counts;
@@ -183,7 +189,7 @@ pub fn message(mut parts: Parts, length: u8, bytes: [u8; 16], ts: u64) -> Done
     parts.active = came.active;
     parts.clock = came.clock;
     Done {
-        parts: parts,
+        parts,
         errno: came.errno,
     }
 }

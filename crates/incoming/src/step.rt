@@ -1,13 +1,10 @@
 // Parts of the steps of a message from the wire.
 ghost use Rattle.std.specs.Prelude.{◌≡◌, if◌then◌else◌};
-ghost use Rattle.constants.specs.Kernel.{CEC-OP-ABORT-UNRECOGNIZED-OP};
-ghost use Rattle.core_answers.specs.Work.{message_of, abort_of};
 ghost use Rattle.handles.specs.Roles.{handles_of};
 ghost use Rattle.incoming.specs.Steps.{entry_by_rule, noted_at, receivers_of};
 ghost use Rattle.message.specs.Rule.{RULE-NONE};
 
-use constants::CEC_OP_ABORT_UNRECOGNIZED_OP;
-use copies::NOBODY;
+use copies::Receivers;
 use entry::Entry;
 use handles::Handles;
 use message::Message;
@@ -43,24 +40,9 @@ pub fn noted(mut noted: [u16; 15], message: Message) -> [u16; 15]
     noted
 }
 
-// What the core sends: its answer, or a Feature Abort.
-pub fn sent(aborts: bool, answer: Message, message: Message) -> Message
-    ensures { result ≡ (if aborts then message_of (abort_of message CEC-OP-ABORT-UNRECOGNIZED-OP) else answer) }
-{
-    if aborts {
-        core_answers::feature_abort(message, CEC_OP_ABORT_UNRECOGNIZED_OP)
-    } else {
-        answer
-    }
-}
-
 // Who gets copies: nobody, if there are to be none or no handle is of the kind.
-pub fn receivers(copied: bool, handles: Handles, kind: u8) -> u8
+pub fn receivers(copied: bool, handles: Handles, kind: Receivers) -> Option<Receivers>
     ensures { result ≡ receivers_of copied (handles_of handles) kind }
 {
-    if copied & copies::has(handles, kind) {
-        kind
-    } else {
-        NOBODY
-    }
+    (copied & copies::has(handles, Some(kind))).then_some(kind)
 }
