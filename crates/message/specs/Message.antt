@@ -1,6 +1,6 @@
 -- A CEC message: its bytes, its addresses and its opcode (document 01, "The adapter's parts").
 -- Assumes nothing.
-use Rattle.std.specs.Prelude.{ℕ, suc, ◌+◌, ◌-◌, ◌*◌, ◌/◌, ◌%◌, min, Bool, List, ◌++◌, eqb, get_or, length, take, replicate}
+use Rattle.std.specs.Prelude.{ℕ, suc, ◌+◌, ◌-◌, ◌*◌, ◌/◌, ◌%◌, min, Bool, List, ◌++◌, eqb, get_or, take, replicate}
 use Rattle.constants.specs.Kernel.{CEC-MSG-FEATURE-ABORT}
 use Rattle.message.specs.declared.Message.{Message}
 
@@ -14,9 +14,6 @@ no_message = message 0 (replicate 16 0)
 -- the bytes that are sent
 abbrev pub contents : Message → List ℕ
 contents m = take m.length m.bytes
-
-abbrev pub sent_length : Message → ℕ
-sent_length m = length (contents m)
 
 -- The first byte has the initiator's address in its high digit, the destination's in its low one; the second byte is the opcode.
 abbrev pub initiator : List ℕ → ℕ

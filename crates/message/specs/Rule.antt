@@ -1,8 +1,10 @@
 -- Which rule of a match is met, as a number (document 02, W-207).
 -- Assumes nothing.
-use Rattle.std.specs.Prelude.{ℕ, Bool, true, cond, not, ◌&&◌, List, ◌≡◌, eqb, get_or, length}
+use Rattle.std.specs.Prelude.{ℕ, Bool, true, cond, not, ◌&&◌, List, ◌≡◌, eqb, get_or, length, Option, Some, None}
 use Rattle.message.specs.Message.{is_feature_abort}
 use Rattle.message.specs.Reply.{has_opcode, from_destination, to_initiator, aborts_sent, is_wanted, is_arc_pair, is_reply}
+use Rattle.message.specs.declared.reply.Rule.{Rule}
+use Rattle.message.specs.declared.reply.Rule.TheVariants.{FeatureAbort, WantedOpcode, ArcPair}
 
 -- "1, 2 or 3 in this order and 0 for no match"
 abbrev pub RULE-NONE : ℕ
@@ -16,6 +18,13 @@ RULE-WANTED-OPCODE = 2
 
 abbrev pub RULE-ARC-PAIR : ℕ
 RULE-ARC-PAIR = 3
+
+-- the number of the rule that the code gives
+abbrev pub rule_number : Option Rule → ℕ
+rule_number None = RULE-NONE
+rule_number (Some FeatureAbort) = RULE-FEATURE-ABORT
+rule_number (Some WantedOpcode) = RULE-WANTED-OPCODE
+rule_number (Some ArcPair) = RULE-ARC-PAIR
 
 -- "Feature Abort, wanted opcode, or the 0xC0 pair, the first in this order that holds"
 abbrev pub first_rule : Bool → Bool → Bool → ℕ

@@ -1,8 +1,8 @@
 // A CEC message by value, and the reply test on messages and on byte slices.
 #![tactic(auto)]
 
-ghost use Rattle.std.specs.Prelude.{◌≡◌, ◌≤◌, ◌+◌, ◌*◌, ◌/◌, get_or};
-ghost use Rattle.message.specs.Message.{message, contents, sent_length, initiator, destination, opcode, address_at};
+ghost use Rattle.std.specs.Prelude.{◌≡◌, ◌≤◌, ◌+◌, ◌*◌, ◌/◌};
+ghost use Rattle.message.specs.Message.{message, contents, initiator, destination, opcode, address_at};
 
 pub mod reply;
 
@@ -91,17 +91,10 @@ impl Message {
         joined(self.bytes[4], self.bytes[5])
     }
 
-    fn sent_length(self) -> usize
-        ensures { result ≡ sent_length self }
+    // The bytes that are sent.
+    fn contents(&self) -> &[u8]
+        ensures { result.now ≡ contents self.now }
     {
-        lists::at_most(self.length as usize, 16)
-    }
-
-    // The byte at a place, 0 past the length.
-    fn sent_byte(self, i: usize) -> u8
-        ensures { result ≡ get_or (contents self) i 0 }
-    {
-        let n = self.sent_length();
-        if i < n { self.bytes[i] } else { 0 }
+        &self.bytes[..lists::at_most(self.length as usize, 16)]
     }
 }

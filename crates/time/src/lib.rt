@@ -13,27 +13,19 @@ use parts::{Done, Parts};
 pub fn time(mut parts: Parts, ms: u32) -> Done
     ensures { done_of result ≡ do_time (state_of parts) ms }
 {
-    if 0 < parts.waits.count() {
-        let mut ended = parts.waits.take_due(ms);
-        while ended.found {
-            let wait = ended.wait;
-            let n = count_at(parts.counts, wait.owner);
-            let h = wait.owner as usize;
-            if (h < 8) & (n < 16) {
-                parts.entries[16 * h + n] = Entry::timed_out(
-                    wait.sequence,
-                    wait.sent,
-                    wait.reply,
-                    wait.tx_ts,
-                );
-                parts.counts[h] = n + 1;
-            }
-            ended = ended.waits.take_due(ms);
+    while let Some(wait) = parts.waits.take_due(ms) {
+        let n = count_at(parts.counts, wait.owner);
+        let h = wait.owner as usize;
+        if (h < 8) & (n < 16) {
+            parts.entries[16 * h + n] = Entry::timed_out(
+                wait.sequence,
+                wait.sent,
+                wait.reply,
+                wait.tx_ts,
+            );
+            parts.counts[h] = n + 1;
         }
-        parts.waits = ended.waits.reduced(ms);
     }
-    Done {
-        parts: parts,
-        errno: 0,
-    }
+    parts.waits = parts.waits.reduced(ms);
+    Done { parts, errno: 0 }
 }

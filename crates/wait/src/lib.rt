@@ -3,9 +3,11 @@
 
 ghost use Rattle.std.specs.Prelude.{◌≤◌, ◌≡◌};
 ghost use Rattle.lists.specs.Tests.{bit};
+ghost use Rattle.message.specs.Rule.{rule_number};
 ghost use Rattle.wait.specs.Wait.{no_wait, owned_by, rule_for, reduced};
 
 use message::Message;
+use message::reply::Rule;
 
 #[repr(C)]
 #[derive(Clone, Copy)]
@@ -42,9 +44,9 @@ impl Wait {
         if self.owner == handle { 1 } else { 0 }
     }
 
-    // The rule by which a message ends it; 0 if it does not.
-    pub fn rule_for(self, message: Message) -> u8
-        ensures { result ≡ rule_for message self }
+    // The rule by which a message ends it, if it does.
+    pub fn rule_for(self, message: Message) -> Option<Rule>
+        ensures { rule_number result ≡ rule_for message self }
     {
         message.reply_rule(self.sent, self.reply)
     }

@@ -1,15 +1,15 @@
 // All waits of the adapter: at most 32 in one list, oldest first.
 #![tactic(auto)]
 
-ghost use Rattle.std.specs.Prelude.{◌≤◌, ◌<◌, ◌≡◌, [], map, ltb, length, get_or, cond};
+ghost use Rattle.std.specs.Prelude.{◌≤◌, ◌<◌, ◌≡◌, [], map, ltb, length, get_or, cond, MatchOption};
 ghost use Rattle.lists.specs.Sums.{any, count};
 ghost use Rattle.lists.specs.Places.{least, without};
 ghost use Rattle.lists.specs.Vector.{put};
 ghost use Rattle.wait.specs.Wait.{no_wait, owned_by, numbered, left_of, reduced};
-ghost use Rattle.waits.specs.Waits.{waits_of, match_in, taken_of, taken_at, due_at, due_taken, without_handle};
+ghost use Rattle.waits.specs.Waits.{waits_of, match_in, numbered_match, taken_of, due_at, due_taken, without_handle};
 
 use message::Message;
-use message::reply::RULE_NONE;
+use message::reply::Rule;
 use wait::Wait;
 
 #[repr(C)]
@@ -19,21 +19,11 @@ pub struct Waits {
     count: usize,
 }
 
-// The waits after one may have been taken out, and that one.
-#[repr(C)]
-#[derive(Clone, Copy)]
-pub struct Ended {
-    pub found: bool,
-    pub wait: Wait,
-    pub waits: Waits,
-}
-
-// The oldest wait that a message ends: its place and the rule. Where there is none, the count and no rule.
-#[repr(C)]
+// A wait that a message ends: its place and the rule.
 #[derive(Clone, Copy)]
 pub struct Match {
     pub place: usize,
-    pub rule: u8,
+    pub rule: Rule,
 }
 
 impl Waits {
@@ -54,21 +44,25 @@ impl Waits {
         self
     }
 
+    fn all(&self) -> &[Wait]
+        ensures value { result.now ≡ waits_of self.now }
+        ensures upper_bound { length result.now ≤ 32 }
+    {
+        &self.slots[..self.count.min(32)]
+    }
+
     pub fn count(self) -> usize
         ensures value { result ≡ length (waits_of self) }
         ensures upper_bound { result ≤ 32 }
     {
-        lists::at_most(self.count, 32)
+        self.all().len()
     }
 
     // The wait at a place, or none.
     pub fn at(self, i: usize) -> Wait
         ensures { result ≡ get_or (waits_of self) i no_wait }
     {
-        if self.count() <= i {
-            return Wait::none();
-        }
-        self.slots[i]
+        self.all().get(i).copied().unwrap_or(Wait::none())
     }
 
     // One more at the end; a full list stays.
@@ -88,12 +82,10 @@ impl Waits {
     {
         let n = self.count();
         let mut kept = 0;
-        let mut i = 0;
-        while i < n {
+        for i in 0..n {
             let wait = self.slots[i];
             self.slots[kept] = wait;
             kept += 1 - wait.owned_by(handle);
-            i += 1;
         }
         self.count = kept;
         self
@@ -103,49 +95,24 @@ impl Waits {
         ensures { waits_of result ≡ without at (waits_of self) }
     {
         let n = self.count();
-        if n <= at {
-            return self;
+        if at < n {
+            self.slots.copy_within(at + 1..n, at);
+            self.count = n - 1;
         }
-        let mut i = at;
-        while i + 1 < n {
-            self.slots[i] = self.slots[i + 1];
-            i += 1;
-        }
-        self.count = i;
         self
     }
 
-    fn take_at(self, at: usize) -> Ended
-        ensures { taken_of result ≡ taken_at at (waits_of self) }
-    {
-        let wait = self.at(at);
-        Ended {
-            found: at < self.count(),
-            wait: wait,
-            waits: self.without(at),
-        }
-    }
-
     // The oldest that a message ends.
-    pub fn first_match(self, message: Message) -> Match
-        ensures { result ≡ match_in message (waits_of self) }
+    pub fn first_match(self, message: Message) -> Option<Match>
+        ensures { numbered_match (length (waits_of self)) result ≡ match_in message (waits_of self) }
     {
         let n = self.count();
-        let mut place = 0;
-        while place < n {
-            let rule = self.slots[place].rule_for(message);
-            if rule != RULE_NONE {
-                return Match {
-                    place: place,
-                    rule: rule,
-                };
+        for place in 0..n {
+            if let Some(rule) = self.slots[place].rule_for(message) {
+                return Some(Match { place, rule });
             }
-            place += 1;
         }
-        Match {
-            place: n,
-            rule: RULE_NONE,
-        }
+        None
     }
 
     // Of two places, that of the less time left, the first where equal.
@@ -161,40 +128,37 @@ impl Waits {
     }
 
     // The place of the least time left, the oldest of equals.
-    fn soonest(self) -> usize
-        ensures { result ≡ least left_of (waits_of self) }
+    fn soonest(self) -> Option<usize>
+        ensures { MatchOption result (waits_of self ≡ []) (λ at. (at < length (waits_of self)) × (at ≡ least left_of (waits_of self))) }
     {
         let n = self.count();
         if n == 0 {
-            return 0;
+            return None;
         }
         let mut at = 0;
-        let mut i = 1;
-        while i < n {
+        for i in 1..n {
             at = self.sooner(at, i);
-            i += 1;
         }
-        at
+        Some(at)
     }
 
-    // The place of the next to end within some milliseconds; the count where there is none.
-    fn due_at(self, ms: u32) -> usize
-        ensures { result ≡ due_at ms (waits_of self) }
+    // The place of the next to end within some milliseconds.
+    #[tactic(auto, using(crate::specs::Waits::due_now, crate::specs::Waits::due_later, crate::specs::Waits::due_never))]
+    fn due_at(self, ms: u32) -> Option<usize>
+        ensures { MatchOption result (due_at ms (waits_of self) ≡ length (waits_of self)) (λ at. (at < length (waits_of self)) × (at ≡ due_at ms (waits_of self))) }
     {
-        let n = self.count();
-        let at = self.soonest();
-        if n <= at {
-            return n;
-        }
-        if self.slots[at].left <= ms { at } else { n }
+        let at = self.soonest()?;
+        (self.at(at).left <= ms).then_some(at)
     }
 
-    // The next to end within some milliseconds taken out.
-    pub fn take_due(self, ms: u32) -> Ended
-        ensures { taken_of result ≡ due_taken ms (waits_of self) }
+    // The next to end within some milliseconds is taken out.
+    pub fn take_due(&mut self, ms: u32) -> Option<Wait>
+        ensures { taken_of result (waits_of self.new) ≡ due_taken ms (waits_of self.old) }
     {
-        let at = self.due_at(ms);
-        self.take_at(at)
+        let at = self.due_at(ms)?;
+        let wait = self.at(at);
+        *self = self.without(at);
+        Some(wait)
     }
 
     // Each with its time left reduced.
@@ -202,10 +166,8 @@ impl Waits {
         ensures { waits_of result ≡ map (reduced ms) (waits_of self) }
     {
         let n = self.count();
-        let mut i = 0;
-        while i < n {
+        for i in 0..n {
             self.slots[i] = self.slots[i].reduced(ms);
-            i += 1;
         }
         self
     }
@@ -214,27 +176,15 @@ impl Waits {
         ensures value { result ≡ count (owned_by handle) (waits_of self) }
         ensures upper_bound { result ≤ 32 }
     {
-        let n = self.count();
-        let mut owned = 0;
-        let mut i = 0;
-        while i < n {
-            owned += self.slots[i].owned_by(handle);
-            i += 1;
-        }
-        owned
+        self.all()
+            .iter()
+            .filter(|wait| wait.owner == handle)
+            .count()
     }
 
     pub fn has_sequence(self, sequence: u32) -> bool
         ensures { result ≡ any (numbered sequence) (waits_of self) }
     {
-        let n = self.count();
-        let mut i = 0;
-        while i < n {
-            if self.slots[i].sequence == sequence {
-                return true;
-            }
-            i += 1;
-        }
-        false
+        self.all().iter().any(|wait| wait.sequence == sequence)
     }
 }

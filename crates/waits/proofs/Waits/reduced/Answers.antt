@@ -9,7 +9,6 @@ loop-i-preserved c =
     let l = c.loop-i in
     let long : length w.slots ≡ 32 = search rules in
     record {
-      within = omega arith;
       count_stays = l.invariant.count_stays;
       slots_so_far = rw (c.reduced.ensures, l.invariant.slots_so_far) (mapped_next (reduced c.args.ms) l.i w.slots _ (omega arith));
     }

@@ -13,8 +13,6 @@ loop-i-preserved c =
     c.sooner-at.ensures ∙ rw l.invariant.least_so_far (sym (least_next left_of w.slots l.i no_wait (omega arith) h)) in
     let n = length-take-le (l.i + 1) w.slots (omega arith) in
     record {
-      begun = omega arith;
-      within = omega arith;
       behind = omega (arith, least_lt left_of (take (l.i + 1) w.slots) (omega arith));
       least_so_far = e;
     }

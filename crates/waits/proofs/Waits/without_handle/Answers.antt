@@ -9,7 +9,4 @@ loop-i-preserved c =
     let w = c.args.self in
     let l = c.loop-i in
     let h = within_slots w.slots w.count _ c.count-n.ensures.value l.i (omega arith) in
-    record {
-      within = omega arith;
-      kept_so_far = rw (c.owned_by.ensures.value, bit_not) (keep_next (λ x. not (owned_by c.args.handle x)) w.slots l.i l.self.slots l.kept _ h l.invariant.kept_so_far);
-    }
+    rw (c.owned_by.ensures.value, bit_not) (keep_next (λ x. not (owned_by c.args.handle x)) w.slots l.i l.self.slots l.kept _ h l.invariant)
