@@ -1,6 +1,6 @@
 -- Copies for the receivers of a kind, or for nobody.
 -- Assumes nothing.
-use Rattle.std.proofs.Common.{◌≡◌, ℕ, Bool, true, false, cond, ◌&&◌, ◌||◌, eqb, List, [], ◌∷◌, sym, refl, ◌∙◌, Option, Some, None}
+use Rattle.std.proofs.Common.{◌≡◌, ℕ, Bool, true, false, cond, ◌&&◌, ◌||◌, eqb, List, [], ◌∷◌, sym, refl, ◌∙◌, Option, Some, None, is_some}
 use Rattle.constants.specs.Kernel.{CEC-MODE-FOLLOWER, CEC-MODE-EXCL-FOLLOWER, CEC-MODE-EXCL-FOLLOWER-PASSTHRU}
 use Rattle.copies.proofs.Turns.{copies_none, nobody}
 use Rattle.copies.specs.Kinds.{gets_copies}
@@ -17,6 +17,10 @@ use Rattle.rules.specs.State.{State}
 any_never : (p : Handle → Bool) → ((x : Handle) → p x ≡ false) → (l : List Handle) → any p l ≡ false
 any_never p k [] = refl
 any_never p k (x ∷ l) = rw (k x, any_never p k l)
+
+pub no_receivers : (kind : Option Receivers) → is_some kind ≡ false → kind ≡ None
+no_receivers None e = refl
+no_receivers (Some x) e = clash refl e
 
 -- copies for nobody
 pub nobody_copies : (kind : Option Receivers) (e : Entry) (s : State) → kind ≡ None → s ≡ copies (in_role (gets_copies kind)) e s

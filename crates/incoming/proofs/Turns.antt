@@ -1,6 +1,6 @@
 -- The six steps of a message from the wire, as the code does them.
 -- Assumes nothing.
-use Rattle.std.proofs.Common.{◌≡◌, ℕ, Bool, true, false, cond, not, ◌&&◌, ◌||◌, eqb, List, length, sym, refl, ap, ◌∙◌, ltb-true, Option, Some, None, is_some}
+use Rattle.std.proofs.Common.{◌≡◌, ℕ, Bool, true, false, cond, not, ◌&&◌, ◌||◌, eqb, List, sym, refl, ap, ◌∙◌, Option, Some, None, is_some}
 use Rattle.constants.specs.Kernel.{CEC-OP-ABORT-UNRECOGNIZED-OP}
 use Rattle.copies.proofs.Turns.{copies_none}
 use Rattle.copies.specs.Kinds.{gets_copies}
@@ -12,30 +12,30 @@ use Rattle.handle.specs.declared.Handle.{Handle}
 use Rattle.incoming.proofs.Alike.{Alike, alike_trans, replied_alike, notes_alike, answers_alike, followed_alike, copies_alike}
 use Rattle.incoming.proofs.Copied.{copies_waits, followers_same}
 use Rattle.incoming.proofs.Receivers.{no_followers, nobody_copies, receivers_copies}
-use Rattle.incoming.specs.Steps.{entry_by_rule, follower_kind, goes_on, noted_at, receivers_of}
-use Rattle.incoming.specs.Work.{chosen_for, to_do_of}
+use Rattle.incoming.proofs.Ending.{end_wait, flag_found, found_ended, reply_step}
+use Rattle.incoming.specs.Ending.{ended_by, to_followers}
+use Rattle.incoming.specs.Steps.{follower_kind, goes_on, noted_at, receivers_of}
+use Rattle.incoming.specs.Work.{to_do_at, to_do_of}
 use Rattle.incoming.specs.declared.ToDo.{ToDo}
 use Rattle.steps.proofs.ByRules.{answered, noted}
-use Rattle.steps.specs.Steps.{answer_to}
-use Rattle.lists.specs.Places.{first, first_passes, without}
+use Rattle.steps.specs.Steps.{answer_to, chosen_of}
+use Rattle.core_answers.specs.declared.Work.{Work}
+use Rattle.lists.specs.Places.{first}
 use Rattle.lists.specs.Sums.{any}
 use Rattle.lists.specs.Tests.{clash, cond_same, split}
 use Rattle.lists.specs.Vector.{put}
 use Rattle.message.specs.Message.{destination, opcode, is_feature_abort}
-use Rattle.message.specs.Rule.{RULE-NONE}
 use Rattle.message.specs.declared.Message.{Message}
-use Rattle.rules.proofs.Opcodes.{rule_abort}
 use Rattle.rules.specs.Core.{answers, is_directed, is_noted, is_registered, notes, sends}
-use Rattle.rules.specs.Deliver.{copies, deliver}
+use Rattle.rules.specs.Deliver.{copies}
 use Rattle.rules.specs.Features.{answer_for, is_answered}
 use Rattle.rules.specs.Handles.{in_role, is_configured, is_here, someone, is_exclusive_follower, is_follower, is_passthrough}
 use Rattle.rules.specs.Incoming.{followed, handled, heard, heard_with, is_copied, is_unhandled, monitors, refused_message, replied, stops}
 use Rattle.settings.specs.declared.Settings.{Settings}
-use Rattle.rules.specs.State.{State, with_noted, with_queue, with_waits}
+use Rattle.rules.specs.State.{State, with_noted, with_queue}
 use Rattle.steps.specs.declared.Chosen.{Chosen}
 use Rattle.transmission.specs.Transmission.{ownerless}
-use Rattle.wait.specs.Wait.{answered_by, no_wait}
-use Rattle.waits.proofs.Matches.{match_found}
+use Rattle.wait.specs.Wait.{answered_by}
 use Rattle.waits.specs.Waits.{Taken, match_taken, taken_at}
 
 -- what `rules: sends` does, with a message
@@ -47,7 +47,7 @@ abbrev when : Bool → (State → State) → State → State
 when b f s = cond b (f s) s
 
 -- what the core sends, if anything
-abbrev put_sent : Option Message → State → State
+abbrev pub put_sent : Option Message → State → State
 put_sent None s = s
 put_sent (Some m) s = with_queue s (put 18 s.queue (ownerless m))
 
@@ -83,20 +83,22 @@ module _ (x y : Message) (kind : Receivers) (e : Entry) where
   sent_in_order true aborts copied s one none = rw ((one refl).0, (one refl).1) (put_if s.capabilities.transmit x s)
   sent_in_order false true copied s one none =
       let sent = sent_first false true s in
-      let first : when copied copied_to sent ≡ sent = rw (none_copied sent (put_sent_handles (cond s.capabilities.transmit (Some y) None) s ∙ none refl)) (cond_same copied sent) in
+      let none_here : any (in_role (gets_copies (Some kind))) sent.handles ≡ false =
+      ap (any (in_role (gets_copies (Some kind)))) (put_sent_handles (cond s.capabilities.transmit (Some y) None) s) ∙ none refl in
+      let first : when copied copied_to sent ≡ sent = rw (none_copied sent none_here) (cond_same copied sent) in
       let then : when copied copied_to s ≡ s = rw (none_copied s (none refl)) (cond_same copied s) in
       first ∙ put_if s.capabilities.transmit y s ∙ ap (λ (z : State). put_into z y) (sym then)
-  sent_in_order false false copied s one none = rw (cond_same s.capabilities.transmit (None {T = Message}))
+  sent_in_order false false copied s one none = rw (cond_same {A = Option Message} s.capabilities.transmit None)
 
-alone : (found follower answered noted d r o : Bool) → (not found && not follower && not (answered || noted) && d && r && o) ≡ true → (answered ≡ false) × (follower ≡ false)
-alone true follower answered noted d r o e = clash e refl
-alone false true answered noted d r o e = clash e refl
-alone false false true noted d r o e = clash e refl
-alone false false false noted d r o e = (refl, refl)
+alone : (found follower answered note d r o : Bool) → (not found && not follower && not (answered || note) && d && r && o) ≡ true → (answered ≡ false) × (follower ≡ false)
+alone true follower answered note d r o e = clash e refl
+alone false true answered note d r o e = clash e refl
+alone false false true note d r o e = clash e refl
+alone false false false note d r o e = (refl, refl)
 
 -- what is to be done, done
 abbrev pub do_reply : ToDo → Message → ℕ → State → State
-do_reply x m ts s = cond (not (eqb x.rule RULE-NONE)) (deliver (with_waits s (without x.place s.waits)) x.wait.owner (entry_by_rule x.rule x.wait m ts)) s
+do_reply x m ts s = end_wait x.ended m ts s
 
 abbrev pub do_note : ToDo → Message → State → State
 do_note x m s = cond x.notes (with_noted s (noted_at s.noted m)) s
@@ -110,10 +112,14 @@ do_copies x m ts s = copies (in_role (gets_copies x.followers)) (message_copy m 
 abbrev pub do_all : ToDo → Message → ℕ → State → State
 do_all x m ts s = do_copies x m ts (do_send x (do_note x m (do_reply x m ts s)))
 
+-- without a reply its flag tells nothing
+chosen_same : (hs : List Handle) (work : Work) (some found f g : Bool) (m : Message) → some ≡ found → (found ≡ true → f ≡ g) → chosen_of hs work some f m ≡ chosen_of hs work found g m
+chosen_same hs work some found f g m e k = split found (λ q. rw (e, q, k q)) (λ q. rw (e, q))
+
 -- steps 4 to 6 after the noting, in their order
 module _ (s : State) (t : Taken) (m : Message) (ts : ℕ) where
   abbrev chosen : Chosen
-  chosen = chosen_for s t m
+  chosen = chosen_of s.handles (work_of s.settings m) t.found t.wait.to_followers m
 
   abbrev answer : Message
   answer = message_of (answer_for s.settings m)
@@ -205,29 +211,21 @@ module _ (s : State) (t : Taken) (m : Message) (ts : ℕ) where
       ∙ sent_in_order answer abort kind e said aborts copied b answer_alone (λ z. rw h (no_followers chosen.exclusive s.handles (abort_alone z).1))
       ∙ in_order_lem b k
 
--- the wait that ends is one that the message answers, and so the rule tells the entry
-reply_step : (s : State) (m : Message) (ts : ℕ) → do_reply (to_do_of s true m) m ts s ≡ replied s (taken_at (first (answered_by m) s.waits) s.waits) m ts
-reply_step s m ts =
-    let t = taken_at (first (answered_by m) s.waits) s.waits in
-    let found = match_found m s.waits in
-    split t.found
-    (λ q.
-    let met = first_passes (answered_by m) s.waits no_wait (ltb-true (first (answered_by m) s.waits) (length s.waits) q) in
-    rw (found, q, rule_abort m t.wait met))
-    (λ q. rw (found, q))
-
 pub done_all : (s : State) (further : Bool) (m : Message) (ts : ℕ) → do_all (to_do_of s further m) m ts s ≡ cond further (handled s (is_answered s m) (answer_for s.settings m) (match_taken m s.waits) m ts) s
 unfolding match_taken notes
 done_all s false m ts = sym (nobody_copies None (message_copy m ts) s refl)
 done_all s true m ts =
     let t = taken_at (first (answered_by m) s.waits) s.waits in
+    let e = ended_by m s.waits in
     let a = replied s t m ts in
     let b = notes a m in
     let k = alike_trans s a b (replied_alike s t m ts) (notes_alike a m) in
     let h = (noted_kept s t m ts a).0 ∙ (replied_kept s t m ts).0 in
     let c = (noted_kept s t m ts a).1 ∙ (replied_kept s t m ts).1 in
-    let x = to_do_of s true m in
-    ap (λ (z : State). do_copies x m ts (do_send x (do_note x m z))) (reply_step s m ts)
+    let same = chosen_same s.handles (work_of s.settings m) (is_some e) t.found (to_followers e) t.wait.to_followers m (found_ended m s.waits) (flag_found m s.waits) in
+    let x = to_do_at s e (chosen s t m ts) in
+    ap (λ (c : Chosen). do_all (to_do_at s e c) m ts s) same
+    ∙ ap (λ (z : State). do_copies x m ts (do_send x (do_note x m z))) (reply_step s m ts)
     ∙ ap (λ (n : Bool). do_copies x m ts (do_send x (cond n (with_noted a (noted_at a.noted m)) a))) (noted s.settings m)
     ∙ sent_steps s t m ts b (do_send x b) k h (rw (c, chosen_sends s t m ts))
 

@@ -9,7 +9,8 @@ use Rattle.entry.specs.declared.Entry.{Entry}
 use Rattle.handle.specs.declared.Handle.{Handle}
 use Rattle.lists.specs.Sums.{any}
 use Rattle.message.specs.Message.{destination, initiator, address_at}
-use Rattle.message.specs.Rule.{RULE-FEATURE-ABORT}
+use Rattle.message.specs.declared.reply.Rule.{Rule}
+use Rattle.message.specs.declared.reply.Rule.TheVariants.{FeatureAbort, WantedOpcode, ArcPair}
 use Rattle.message.specs.declared.Message.{Message}
 use Rattle.rules.specs.Handles.{in_role, is_configured, is_here}
 use Rattle.rules.specs.State.{State}
@@ -28,8 +29,10 @@ abbrev pub receivers_of : Bool → List Handle → Receivers → Option Receiver
 receivers_of copied hs kind = cond (copied && any (in_role (gets_copies (Some kind))) hs) (Some kind) None
 
 -- `rules: reply_entry`, by the rule of the match
-abbrev pub entry_by_rule : ℕ → Wait → Message → ℕ → Entry
-entry_by_rule rule w m ts = cond (rule == RULE-FEATURE-ABORT) (feature_abort_reply w.sequence m w.tx_ts ts) (reply w.sequence m w.tx_ts ts)
+abbrev pub entry_by_rule : Rule → Wait → Message → ℕ → Entry
+entry_by_rule FeatureAbort w m ts = feature_abort_reply w.sequence m w.tx_ts ts
+entry_by_rule WantedOpcode w m ts = reply w.sequence m w.tx_ts ts
+entry_by_rule ArcPair w m ts = reply w.sequence m w.tx_ts ts
 
 -- not `rules: stops`
 abbrev pub goes_on : State → Message → Bool

@@ -7,7 +7,9 @@ ghost use Rattle.rules.specs.Handles.{is_here};
 ghost use Rattle.rules.specs.Incoming.{incoming_refusal};
 ghost use Rattle.rules.specs.Tracker.{active_after_message, do_message};
 ghost use Rattle.incoming.specs.Steps.{monitor_kind, follower_kind, goes_on};
+ghost use Rattle.incoming.specs.Ending.{ended_by, to_followers};
 ghost use Rattle.incoming.specs.Work.{arrival_of, to_do_of};
+ghost use Rattle.waits.specs.Waits.{waits_of};
 
 mod step;
 
@@ -16,10 +18,11 @@ use copies::Receivers;
 use entry::Entry;
 use inbox::count_at;
 use message::Message;
-use message::reply::RULE_NONE;
+use message::reply::Rule;
 use parts::{Done, Parts, check, clock_errno};
 use transmission::Transmission;
 use wait::Wait;
+use waits::Waits;
 
 // A message as it comes: its errno, the active address and the clock afterwards, and which monitors get a copy.
 #[derive(Clone, Copy)]
@@ -31,12 +34,18 @@ struct Arrival {
     monitors: Option<Receivers>,
 }
 
-// What is to be done in steps 3 to 6: by which rule the wait at a place ends with a reply, if any does, whether an address is noted, what the core sends, and who gets copies.
+// A wait that a message ends: its place, the wait, and the rule by which the message is the reply.
 #[derive(Clone, Copy)]
-struct ToDo {
-    rule: u8,
+struct Ended {
     place: usize,
     wait: Wait,
+    rule: Rule,
+}
+
+// What is to be done in steps 3 to 6: which wait ends with a reply, whether an address is noted, what the core sends, and who gets copies.
+#[derive(Clone, Copy)]
+struct ToDo {
+    ended: Option<Ended>,
     notes: bool,
     sends: Option<Message>,
     followers: Option<Receivers>,
@@ -87,32 +96,55 @@ fn goes_on(parts: Parts, message: Message) -> bool
     parts.is_configured() & (message.length() != 1) & is_here(parts, message.destination())
 }
 
+// The oldest wait that a message ends.
+fn ended_by(waits: Waits, message: Message) -> Option<Ended>
+    ensures { result ≡ ended_by message (waits_of waits) }
+{
+    match waits.first_match(message) {
+        None => None,
+        Some(found) => Some(Ended {
+            place: found.place,
+            wait: waits.at(found.place),
+            rule: found.rule,
+        }),
+    }
+}
+
+// Whether a wait that ends wants its reply copied to the followers.
+fn to_followers(ended: Option<Ended>) -> bool
+    ensures { result ≡ to_followers ended }
+{
+    match ended {
+        None => false,
+        Some(ended) => ended.wait.to_followers,
+    }
+}
+
 // Steps 3 to 6: reply, core work, copies, Feature Abort; nothing where the message goes no further.
 fn later_steps(parts: Parts, further: bool, message: Message) -> ToDo
     ensures { result ≡ to_do_of (state_of parts) further message }
 {
-    let waits = parts.waits;
-    let oldest = waits.first_match(message);
-    let found = oldest.rule != RULE_NONE;
-    let wait = waits.at(oldest.place);
+    if !further {
+        return ToDo {
+            ended: None,
+            notes: false,
+            sends: None,
+            followers: None,
+        };
+    }
+    let ended = ended_by(parts.waits, message);
     let work = core_answers::work_for(parts.settings, message);
     let handles = parts.handles;
-    let chosen = steps::choose(handles, work, found, wait.to_followers, message);
+    let chosen = steps::choose(handles, work, ended.is_some(), to_followers(ended), message);
     ToDo {
-        rule: step::rule(further, oldest.rule),
-        place: oldest.place,
-        wait,
-        notes: further & chosen.notes,
-        sends: if further & parts.can_transmit {
+        ended,
+        notes: chosen.notes,
+        sends: if parts.can_transmit {
             chosen.sends
         } else {
             None
         },
-        followers: step::receivers(
-            further & chosen.copies,
-            handles,
-            follower_kind(chosen.exclusive),
-        ),
+        followers: step::receivers(chosen.copies, handles, follower_kind(chosen.exclusive)),
     }
 }
 
@@ -162,12 +194,12 @@ pub fn message(mut parts: Parts, length: u8, bytes: [u8; 16], ts: u64) -> Done
         parts = copies::copies(parts, came.monitors, Entry::message_copy(message, ts));
     }
     let to_do = later_steps(parts, (came.errno == 0) & goes_on(parts, message), message);
-    if to_do.rule != RULE_NONE {
-        parts.waits = parts.waits.without(to_do.place);
-        let n = count_at(parts.counts, to_do.wait.owner);
-        let h = to_do.wait.owner as usize;
+    if let Some(ended) = to_do.ended {
+        parts.waits = parts.waits.without(ended.place);
+        let n = count_at(parts.counts, ended.wait.owner);
+        let h = ended.wait.owner as usize;
         if (h < 8) & (n < 16) {
-            parts.entries[16 * h + n] = step::reply_entry(to_do.rule, to_do.wait, message, ts);
+            parts.entries[16 * h + n] = step::reply_entry(ended.rule, ended.wait, message, ts);
             parts.counts[h] = n + 1;
         }
     }

@@ -1,31 +1,22 @@
 // Parts of the steps of a message from the wire.
-ghost use Rattle.std.specs.Prelude.{◌≡◌, if◌then◌else◌};
+ghost use Rattle.std.specs.Prelude.{◌≡◌};
 ghost use Rattle.handles.specs.Roles.{handles_of};
 ghost use Rattle.incoming.specs.Steps.{entry_by_rule, noted_at, receivers_of};
-ghost use Rattle.message.specs.Rule.{RULE-NONE};
 
 use copies::Receivers;
 use entry::Entry;
 use handles::Handles;
 use message::Message;
-use message::reply::{RULE_FEATURE_ABORT, RULE_NONE};
+use message::reply::Rule;
 use wait::Wait;
 
-// The rule of a match, if the message goes further.
-pub fn rule(further: bool, rule: u8) -> u8
-    ensures { result ≡ (if further then rule else RULE-NONE) }
-{
-    if further { rule } else { RULE_NONE }
-}
-
 // A Feature Abort is a reply too, with a bit of its own in the status.
-pub fn reply_entry(rule: u8, wait: Wait, message: Message, ts: u64) -> Entry
+pub fn reply_entry(rule: Rule, wait: Wait, message: Message, ts: u64) -> Entry
     ensures { result ≡ entry_by_rule rule wait message ts }
 {
-    if rule == RULE_FEATURE_ABORT {
-        Entry::feature_abort_reply(wait.sequence, message, wait.tx_ts, ts)
-    } else {
-        Entry::reply(wait.sequence, message, wait.tx_ts, ts)
+    match rule {
+        Rule::FeatureAbort => Entry::feature_abort_reply(wait.sequence, message, wait.tx_ts, ts),
+        _ => Entry::reply(wait.sequence, message, wait.tx_ts, ts),
     }
 }
 
