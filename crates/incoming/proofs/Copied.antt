@@ -1,6 +1,6 @@
 -- Copies leave the waits, and go to the same handles where the tests agree.
 -- Assumes nothing.
-use Rattle.std.proofs.Common.{◌≡◌, ℕ, Bool, cond, ◌&&◌, eqb, List, [], ◌∷◌, sym, refl, ap, ◌∙◌}
+use Rattle.std.proofs.Common.{◌≡◌, ℕ, Bool, cond, ◌&&◌, eqb, List, [], ◌∷◌, sym, refl, ap, ◌∙◌, Some}
 use Rattle.constants.specs.Kernel.{CEC-MODE-MONITOR-ALL}
 use Rattle.copies.specs.Kinds.{gets_copies}
 use Rattle.entry.specs.declared.Entry.{Entry}
@@ -64,28 +64,28 @@ copies_same p q k e s =
     handle_numbers
 
 -- the monitors that see a message
-monitor_same : (s : State) (m : Message) (here : Bool) → here ≡ is_here s (destination m.bytes) → (mode : ℕ) → gets_copies (monitor_kind here) mode ≡ monitors s m mode
+monitor_same : (s : State) (m : Message) (here : Bool) → here ≡ is_here s (destination m.bytes) → (mode : ℕ) → gets_copies (Some (monitor_kind here)) mode ≡ monitors s m mode
 monitor_same s m here e mode =
     split here
     (λ q. rw (q, sym e ∙ q, or-true (eqb (follower_part mode) CEC-MODE-MONITOR-ALL), and-true (is_monitor mode)))
     (λ q. rw (q, sym e ∙ q, or-false (eqb (follower_part mode) CEC-MODE-MONITOR-ALL)))
 
 pub monitors_same : (s : State) (m : Message) (here : Bool) (e : Entry) → here ≡ is_here s (destination m.bytes)
-    → copies (in_role (gets_copies (monitor_kind here))) e s ≡ copies (in_role (monitors s m)) e s
+    → copies (in_role (gets_copies (Some (monitor_kind here)))) e s ≡ copies (in_role (monitors s m)) e s
 monitors_same s m here e q =
-    copies_same (in_role (gets_copies (monitor_kind here))) (in_role (monitors s m))
+    copies_same (in_role (gets_copies (Some (monitor_kind here)))) (in_role (monitors s m))
     (λ x. ap (λ (b : Bool). x.is_open && b) (monitor_same s m here q x.mode))
     e
     s
 
 -- the followers that get a message, where the same roles are held
-follower_same : (exclusive : Bool) (s : State) → someone is_exclusive_follower s ≡ exclusive → (mode : ℕ) → gets_copies (follower_kind exclusive) mode ≡ follows s mode
+follower_same : (exclusive : Bool) (s : State) → someone is_exclusive_follower s ≡ exclusive → (mode : ℕ) → gets_copies (Some (follower_kind exclusive)) mode ≡ follows s mode
 follower_same exclusive s e mode = split exclusive (λ q. rw (q, e ∙ q)) (λ q. rw (q, e ∙ q))
 
 pub followers_same : (exclusive : Bool) (s : State) (e : Entry) → someone is_exclusive_follower s ≡ exclusive
-    → copies (in_role (gets_copies (follower_kind exclusive))) e s ≡ copies (in_role (follows s)) e s
+    → copies (in_role (gets_copies (Some (follower_kind exclusive)))) e s ≡ copies (in_role (follows s)) e s
 followers_same exclusive s e q =
-    copies_same (in_role (gets_copies (follower_kind exclusive))) (in_role (follows s))
+    copies_same (in_role (gets_copies (Some (follower_kind exclusive)))) (in_role (follows s))
     (λ x. ap (λ (b : Bool). x.is_open && b) (follower_same exclusive s q x.mode))
     e
     s

@@ -3,3 +3,4 @@ pub mod Copied
 pub mod Outcome
 pub mod Receivers
 pub mod Turns
+pub mod Ending

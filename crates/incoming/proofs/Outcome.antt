@@ -1,8 +1,9 @@
 -- What a message from the wire comes to, from what each statement does to the parts.
 -- Assumes nothing.
-use Rattle.std.proofs.Common.{◌≡◌, ℕ, Bool, true, false, cond, not, ◌&&◌, eqb, ◌≢◌, List, sym, refl, ap, ◌∙◌, ap₂, ne_eqb, eqb-true}
+use Rattle.std.proofs.Common.{◌≡◌, ℕ, Bool, true, false, cond, ◌&&◌, eqb, ◌≢◌, List, sym, refl, ap, ◌∙◌, ap₂, ne_eqb, eqb-true, Option, Some, None}
 use borrow.Author.Tests.{eqb-false}
-use Rattle.copies.specs.Kinds.{gets_copies, NOBODY}
+use Rattle.copies.specs.Kinds.{gets_copies}
+use Rattle.copies.specs.declared.Receivers.{Receivers}
 use Rattle.entry.specs.Entry.{message_copy}
 use Rattle.entry.specs.declared.Entry.{Entry}
 use Rattle.inbox.specs.Inboxes.{delivered}
@@ -16,7 +17,6 @@ use Rattle.incoming.specs.declared.Arrival.{Arrival}
 use Rattle.incoming.specs.declared.ToDo.{ToDo}
 use Rattle.lists.specs.Tests.{split}
 use Rattle.message.specs.Message.{destination, message}
-use Rattle.message.specs.Rule.{RULE-NONE}
 use Rattle.message.specs.declared.Message.{Message}
 use Rattle.parts.proofs.Arrays.{moved_parts}
 use Rattle.parts.proofs.Outcomes.{refused_outcome, taken_outcome}
@@ -42,7 +42,7 @@ copied_change p r f e nothing s n = (
   λ z. ap (λ (x : Parts). with_changed p x.handles x.counts x.entries p.active p.clock) (n z),
 )
 
-outcome : (errno length : ℕ) (bytes : List ℕ) (ts : ℕ) (m : Message) (active clock : ℕ) (here : Bool) (kind : ℕ) (x : ToDo) (p0 p1 p2 p3 p4 p5 : Parts)
+outcome : (errno length : ℕ) (bytes : List ℕ) (ts : ℕ) (m : Message) (active clock : ℕ) (here : Bool) (kind : Option Receivers) (x : ToDo) (p0 p1 p2 p3 p4 p5 : Parts)
     → errno ≡ incoming_refusal p0.clock length ts
     → m ≡ message length bytes
     → active ≡ cond (eqb errno 0) (active_after_message (state_of p0) m) p0.active
@@ -50,11 +50,11 @@ outcome : (errno length : ℕ) (bytes : List ℕ) (ts : ℕ) (m : Message) (acti
     → here ≡ is_here (state_of p0) (destination m.bytes)
     → kind ≡ receivers_of (eqb errno 0) (state_of p0).handles (monitor_kind here)
     → x ≡ to_do_of (state_of p1) (eqb errno 0 && goes_on (state_of p1) m) m
-    → Change p0 (copies (in_role (gets_copies kind)) (message_copy m ts) (state_of p0)) (kind ≡ NOBODY) p1
-    → Change p1 (do_reply x m ts (state_of p1)) (x.rule ≡ RULE-NONE) p2
+    → Change p0 (copies (in_role (gets_copies kind)) (message_copy m ts) (state_of p0)) (kind ≡ None) p1
+    → Change p1 (do_reply x m ts (state_of p1)) (x.ended ≡ None) p2
     → Change p2 (do_note x m (state_of p2)) (x.notes ≡ false) p3
-    → Change p3 (do_send x (state_of p3)) (x.sends ≡ false) p4
-    → Change p4 (do_copies x m ts (state_of p4)) (x.followers ≡ NOBODY) p5
+    → Change p3 (do_send x (state_of p3)) (x.sends ≡ None) p4
+    → Change p4 (do_copies x m ts (state_of p4)) (x.followers ≡ None) p5
     → (done_of (record { parts = moved_parts p5 active clock; errno = errno }) ≡ do_message (state_of p0) length bytes ts) × (errno ≢ 0 → moved_parts p5 active clock ≡ p0)
 unfolding do_message
 outcome errno length bytes ts m active clock here kind x p0 p1 p2 p3 p4 p5 refusal made tracks ticks at monitored todo c1 c2 c3 c4 c5 =
@@ -67,14 +67,14 @@ outcome errno length bytes ts m active clock here kind x p0 p1 p2 p3 p4 p5 refus
     ap₂ (moved_parts p5) (tracks ∙ rw f) (ticks ∙ rw f) ∙ ap (λ (p : Parts). moved_parts p p0.active p0.clock) (c5.1 (ap (λ (y : ToDo). y.followers) nothing)
     ∙ c4.1 (ap (λ (y : ToDo). y.sends) nothing)
     ∙ c3.1 (ap (λ (y : ToDo). y.notes) nothing)
-    ∙ c2.1 (ap (λ (y : ToDo). y.rule) nothing)
+    ∙ c2.1 (ap (λ (y : ToDo). y.ended) nothing)
     ∙ c1.1 (monitored ∙ ap (λ (b : Bool). receivers_of b s.handles (monitor_kind here)) f)) in
     let all : state_of p5 ≡ do_all x m ts u = c5.0 ∙ ap (do_copies x m ts) (c4.0 ∙ ap (do_send x) (c3.0 ∙ ap (do_note x m) c2.0)) in
     let copied : eqb errno 0 ≡ true → u ≡ copies (in_role (monitors s m)) e s =
     λ f. c1.0
-    ∙ ap (λ (k : ℕ). copies (in_role (gets_copies k)) e s) monitored
+    ∙ ap (λ (k : Option Receivers). copies (in_role (gets_copies k)) e s) monitored
     ∙ receivers_copies (eqb errno 0) (monitor_kind here) e s
-    ∙ ap (λ (b : Bool). cond b (copies (in_role (gets_copies (monitor_kind here))) e s) s) f
+    ∙ ap (λ (b : Bool). cond b (copies (in_role (gets_copies (Some (monitor_kind here)))) e s) s) f
     ∙ monitors_same s m here e at in
     let heard_all : eqb errno 0 ≡ true → state_of p5 ≡ heard s m ts =
     λ f. heard_all_lem s u (state_of p5) m ts (copied f)
@@ -103,11 +103,11 @@ by_arrival a s n bytes ts e = rw e (refl, refl, refl, refl, refl)
 module _ (a : Arrival) (n : ℕ) (bytes : List ℕ) (ts : ℕ) (x : ToDo) (p0 p1 p2 p3 p4 p5 : Parts) where
   pub message_outcome : a ≡ arrival_of (state_of p0) n bytes ts
       → x ≡ to_do_of (state_of p1) (eqb a.errno 0 && goes_on (state_of p1) a.message) a.message
-      → Change p0 (copies (in_role (gets_copies a.monitors)) (message_copy a.message ts) (state_of p0)) (a.monitors ≡ NOBODY) p1
-      → Change p1 (do_reply x a.message ts (state_of p1)) (x.rule ≡ RULE-NONE) p2
+      → Change p0 (copies (in_role (gets_copies a.monitors)) (message_copy a.message ts) (state_of p0)) (a.monitors ≡ None) p1
+      → Change p1 (do_reply x a.message ts (state_of p1)) (x.ended ≡ None) p2
       → Change p2 (do_note x a.message (state_of p2)) (x.notes ≡ false) p3
-      → Change p3 (do_send x (state_of p3)) (x.sends ≡ false) p4
-      → Change p4 (do_copies x a.message ts (state_of p4)) (x.followers ≡ NOBODY) p5
+      → Change p3 (do_send x (state_of p3)) (x.sends ≡ None) p4
+      → Change p4 (do_copies x a.message ts (state_of p4)) (x.followers ≡ None) p5
       → (done_of (record { parts = moved_parts p5 a.active a.clock; errno = a.errno }) ≡ do_message (state_of p0) n bytes ts) × (a.errno ≢ 0 → moved_parts p5 a.active a.clock ≡ p0)
   message_outcome e todo =
       let s = state_of p0 in
@@ -116,10 +116,9 @@ module _ (a : Arrival) (n : ℕ) (bytes : List ℕ) (ts : ℕ) (x : ToDo) (p0 p1
       outcome a.errno n bytes ts m a.active a.clock (is_here s (destination m.bytes)) a.monitors x p0 p1 p2 p3 p4 p5 q.0 q.1 q.2 q.3 refl q.4 todo
 
 -- a reply, once its entry is stored
-pub replied_state : (s : State) (rule : ℕ) (ws vs : List Wait) (is : List (List Entry)) (h : ℕ) (e d : Entry)
-    → rule ≢ RULE-NONE
+pub replied_state : (s : State) (ws vs : List Wait) (is : List (List Entry)) (h : ℕ) (e d : Entry)
     → vs ≡ ws
     → e ≡ d
     → is ≡ delivered s.inboxes h e
-    → with_inboxes (with_waits s vs) is ≡ cond (not (eqb rule RULE-NONE)) (deliver (with_waits s ws) h d) s
-replied_state s rule ws vs is h e d some v q r = rw (ne_eqb rule RULE-NONE some, r, v, q)
+    → with_inboxes (with_waits s vs) is ≡ deliver (with_waits s ws) h d
+replied_state s ws vs is h e d v q r = rw (r, v, q)

@@ -7,19 +7,22 @@ ghost use Rattle.rules.specs.Handles.{is_here};
 ghost use Rattle.rules.specs.Incoming.{incoming_refusal};
 ghost use Rattle.rules.specs.Tracker.{active_after_message, do_message};
 ghost use Rattle.incoming.specs.Steps.{monitor_kind, follower_kind, goes_on};
+ghost use Rattle.incoming.specs.Ending.{ended_by, to_followers};
 ghost use Rattle.incoming.specs.Work.{arrival_of, to_do_of};
+ghost use Rattle.waits.specs.Waits.{waits_of};
 
 mod step;
 
 use constants::{CEC_LOG_ADDR_BROADCAST, EINVAL};
-use copies::{EXCLUSIVE_FOLLOWER, FOLLOWERS, MONITORS, MONITORS_OF_ALL, NOBODY};
+use copies::Receivers;
 use entry::Entry;
 use inbox::count_at;
 use message::Message;
-use message::reply::RULE_NONE;
+use message::reply::Rule;
 use parts::{Done, Parts, check, clock_errno};
 use transmission::Transmission;
 use wait::Wait;
+use waits::Waits;
 
 // A message as it comes: its errno, the active address and the clock afterwards, and which monitors get a copy.
 #[derive(Clone, Copy)]
@@ -28,19 +31,24 @@ struct Arrival {
     message: Message,
     active: u16,
     clock: u64,
-    monitors: u8,
+    monitors: Option<Receivers>,
 }
 
-// What is to be done in steps 3 to 6: by which rule the wait at a place ends with a reply, if any does, whether an address is noted, whether the core sends a message, and who gets copies.
+// A wait that a message ends: its place, the wait, and the rule by which the message is the reply.
 #[derive(Clone, Copy)]
-struct ToDo {
-    rule: u8,
+struct Ended {
     place: usize,
     wait: Wait,
+    rule: Rule,
+}
+
+// What is to be done in steps 3 to 6: which wait ends with a reply, whether an address is noted, what the core sends, and who gets copies.
+#[derive(Clone, Copy)]
+struct ToDo {
+    ended: Option<Ended>,
     notes: bool,
-    sends: bool,
-    answer: Message,
-    followers: u8,
+    sends: Option<Message>,
+    followers: Option<Receivers>,
 }
 
 fn message_errno(clock: u64, length: u8, ts: u64) -> u32
@@ -60,20 +68,24 @@ fn is_here(parts: Parts, address: u8) -> bool
 }
 
 // Which monitors see a message: all of them if it goes to 15 or an own address.
-fn monitor_kind(here: bool) -> u8
+fn monitor_kind(here: bool) -> Receivers
     ensures { result ≡ monitor_kind here }
 {
-    if here { MONITORS } else { MONITORS_OF_ALL }
+    if here {
+        Receivers::Monitors
+    } else {
+        Receivers::MonitorsOfAll
+    }
 }
 
 // Who gets the copy for followers: the exclusive follower, if there is one.
-fn follower_kind(exclusive: bool) -> u8
+fn follower_kind(exclusive: bool) -> Receivers
     ensures { result ≡ follower_kind exclusive }
 {
     if exclusive {
-        EXCLUSIVE_FOLLOWER
+        Receivers::ExclusiveFollower
     } else {
-        FOLLOWERS
+        Receivers::Followers
     }
 }
 
@@ -84,29 +96,55 @@ fn goes_on(parts: Parts, message: Message) -> bool
     parts.is_configured() & (message.length() != 1) & is_here(parts, message.destination())
 }
 
+// The oldest wait that a message ends.
+fn ended_by(waits: Waits, message: Message) -> Option<Ended>
+    ensures { result ≡ ended_by message (waits_of waits) }
+{
+    match waits.first_match(message) {
+        None => None,
+        Some(found) => Some(Ended {
+            place: found.place,
+            wait: waits.at(found.place),
+            rule: found.rule,
+        }),
+    }
+}
+
+// Whether a wait that ends wants its reply copied to the followers.
+fn to_followers(ended: Option<Ended>) -> bool
+    ensures { result ≡ to_followers ended }
+{
+    match ended {
+        None => false,
+        Some(ended) => ended.wait.to_followers,
+    }
+}
+
 // Steps 3 to 6: reply, core work, copies, Feature Abort; nothing where the message goes no further.
 fn later_steps(parts: Parts, further: bool, message: Message) -> ToDo
     ensures { result ≡ to_do_of (state_of parts) further message }
 {
-    let waits = parts.waits;
-    let oldest = waits.first_match(message);
-    let found = oldest.rule != RULE_NONE;
-    let wait = waits.at(oldest.place);
+    if !further {
+        return ToDo {
+            ended: None,
+            notes: false,
+            sends: None,
+            followers: None,
+        };
+    }
+    let ended = ended_by(parts.waits, message);
     let work = core_answers::work_for(parts.settings, message);
     let handles = parts.handles;
-    let chosen = steps::choose(handles, work, found, wait.to_followers, message);
+    let chosen = steps::choose(handles, work, ended.is_some(), to_followers(ended), message);
     ToDo {
-        rule: step::rule(further, oldest.rule),
-        place: oldest.place,
-        wait: wait,
-        notes: further & chosen.notes,
-        sends: further & (chosen.answers | chosen.aborts) & parts.can_transmit,
-        answer: step::sent(chosen.aborts, work.answer, message),
-        followers: step::receivers(
-            further & chosen.copies,
-            handles,
-            follower_kind(chosen.exclusive),
-        ),
+        ended,
+        notes: chosen.notes,
+        sends: if parts.can_transmit {
+            chosen.sends
+        } else {
+            None
+        },
+        followers: step::receivers(chosen.copies, handles, follower_kind(chosen.exclusive)),
     }
 }
 
@@ -137,8 +175,8 @@ fn arrived(parts: Parts, length: u8, bytes: [u8; 16], ts: u64) -> Arrival
     let handles = parts.handles;
     let here = is_here(parts, message.destination());
     Arrival {
-        errno: errno,
-        message: message,
+        errno,
+        message,
         active: active_after(parts, errno == 0, message),
         clock: clock_after(parts.clock, errno == 0, ts),
         monitors: step::receivers(errno == 0, handles, monitor_kind(here)),
@@ -152,26 +190,26 @@ pub fn message(mut parts: Parts, length: u8, bytes: [u8; 16], ts: u64) -> Done
 {
     let came = arrived(parts, length, bytes, ts);
     let message = came.message;
-    if came.monitors != NOBODY {
+    if came.monitors.is_some() {
         parts = copies::copies(parts, came.monitors, Entry::message_copy(message, ts));
     }
     let to_do = later_steps(parts, (came.errno == 0) & goes_on(parts, message), message);
-    if to_do.rule != RULE_NONE {
-        parts.waits = parts.waits.without(to_do.place);
-        let n = count_at(parts.counts, to_do.wait.owner);
-        let h = to_do.wait.owner as usize;
+    if let Some(ended) = to_do.ended {
+        parts.waits = parts.waits.without(ended.place);
+        let n = count_at(parts.counts, ended.wait.owner);
+        let h = ended.wait.owner as usize;
         if (h < 8) & (n < 16) {
-            parts.entries[16 * h + n] = step::reply_entry(to_do.rule, to_do.wait, message, ts);
+            parts.entries[16 * h + n] = step::reply_entry(ended.rule, ended.wait, message, ts);
             parts.counts[h] = n + 1;
         }
     }
     if to_do.notes {
         parts.noted = step::noted(parts.noted, message);
     }
-    if to_do.sends {
-        parts.queue = parts.queue.put(Transmission::ownerless(to_do.answer));
+    if let Some(sent) = to_do.sends {
+        parts.queue = parts.queue.put(Transmission::ownerless(sent));
     }
-    if to_do.followers != NOBODY {
+    if to_do.followers.is_some() {
         let copied = copies::copies(parts, to_do.followers, Entry::message_copy(message, ts));
         let handles = copied.handles;
         let counts = copied.counts;
@@ -183,7 +221,7 @@ pub fn message(mut parts: Parts, length: u8, bytes: [u8; 16], ts: u64) -> Done
     parts.active = came.active;
     parts.clock = came.clock;
     Done {
-        parts: parts,
+        parts,
         errno: came.errno,
     }
 }
