@@ -193,12 +193,7 @@ impl Adapter {
     pub fn time_passed(self, ms: u32) -> Done
         ensures { done_of result ≡ step (state_of self) (call_time ms) }
     {
-        let passed = time::time(self.parts, ms);
-        let parts = passed.parts;
-        Done {
-            adapter: Adapter { parts: parts },
-            errno: passed.errno,
-        }
+        self.done(Ok(time::time(self.parts, ms)))
     }
 
     pub fn configure(self, settings: Settings) -> Done

@@ -2,16 +2,17 @@
 #![tactic(auto)]
 
 ghost use Rattle.std.specs.Prelude.{◌≡◌};
-ghost use Rattle.parts.specs.Parts.{state_of, done_of};
+ghost use Rattle.parts.specs.Parts.{state_of};
+ghost use Rattle.rules.specs.Call.{finish, done};
 ghost use Rattle.rules.specs.Time.{do_time};
 
 use entry::Entry;
 use inbox::count_at;
-use parts::{Done, Parts};
+use parts::Parts;
 
 // Each wait with no more left than that ends by an entry for its owner, with the sent length, bytes and time and the opcode wanted, least time left first, oldest first where equal. Others are reduced.
-pub fn time(mut parts: Parts, ms: u32) -> Done
-    ensures { done_of result ≡ do_time (state_of parts) ms }
+pub fn time(mut parts: Parts, ms: u32) -> Parts
+    ensures { finish done (state_of result) ≡ do_time (state_of parts) ms }
 {
     while let Some(wait) = parts.waits.take_due(ms) {
         let n = count_at(parts.counts, wait.owner);
@@ -27,5 +28,5 @@ pub fn time(mut parts: Parts, ms: u32) -> Done
         }
     }
     parts.waits = parts.waits.reduced(ms);
-    Done { parts, errno: 0 }
+    parts
 }
