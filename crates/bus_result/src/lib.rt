@@ -9,7 +9,6 @@ use bus_status::{is_final, is_ok, kept_counts};
 use constants::Errno;
 use copies::Receivers;
 use entry::{Counts, Entry};
-use inbox::count_at;
 use parts::{Parts, check_time};
 use transmission::Transmission;
 use wait::Wait;
@@ -59,12 +58,10 @@ pub fn bus_result(
             Entry::result_copy(status, kept, message, ts),
         );
     }
-    let n = count_at(parts.counts, sent.owner);
-    let h = sent.owner as usize;
-    if (h < 8) & (n < 16) {
-        parts.entries[16 * h + n] = Entry::result(sent.sequence, status, kept, message, ts);
-        parts.counts[h] = n + 1;
-    }
+    parts.deliver(
+        sent.owner,
+        Entry::result(sent.sequence, status, kept, message, ts),
+    );
     parts.wire = parts.wire.without_head();
     parts.clock = ts;
     if is_ok(status) & sent.wants_reply {

@@ -5,6 +5,7 @@ ghost use Rattle.std.specs.Prelude.{◌≤◌, ◌≡◌, length};
 ghost use Rattle.inbox.specs.Inboxes.{inboxes_of, inbox_of};
 ghost use Rattle.rules.specs.Call.{check};
 ghost use Rattle.rules.specs.Clock.{clock_refusal};
+ghost use Rattle.rules.specs.Deliver.{deliver};
 ghost use Rattle.rules.specs.Handles.{handle_at, is_open, is_configured, is_own};
 ghost use Rattle.rules.specs.State.{fresh, no_settings, none_noted, with_inboxes};
 ghost use Rattle.parts.specs.Parts.{boxes_of, state_of, errno_of};
@@ -140,6 +141,18 @@ impl Parts {
     {
         let counts = self.counts;
         count_at(counts, handle)
+    }
+
+    // One more entry for a handle; a full inbox stays. It is written in place.
+    pub fn deliver(&mut self, handle: u8, entry: Entry)
+        ensures { state_of self.new ≡ deliver (state_of self.old) handle entry }
+    {
+        let n = count_at(self.counts, handle);
+        let h = handle as usize;
+        if (h < 8) & (n < 16) {
+            self.entries[16 * h + n] = entry;
+            self.counts[h] = n + 1;
+        }
     }
 
     // For a call of several steps that works on the inboxes alone: the steps pass less by value.

@@ -1,8 +1,7 @@
-use Rattle.std.proofs.Common.{◌≡◌, List, rules, ap, ap₂, ◌∙◌, drop}
+use Rattle.std.proofs.Common.{◌≡◌, List, ap, ap₂, ◌∙◌, drop}
 use Rattle.bus_result.proofs.Concluded.{begun_taken, begun_left, concluded_parts, result_for, watched, watched_none, watched_some}
 use Rattle.entry.specs.declared.Counts.{Counts}
 use Rattle.entry.specs.declared.Entry.{Entry}
-use Rattle.parts.proofs.Arrays.{Delivered, LongParts, leaves, stores}
 use Rattle.parts.proofs.Outcomes.{accepted_call, refused_call}
 use Rattle.std.proofs.lemmas.Result.{err_from_is_err_and}
 use Rattle.parts.specs.Parts.{state_of}
@@ -13,7 +12,7 @@ use Rattle.rules.specs.State.{State, with_clock, with_waits, with_wire}
 use Rattle.transmission.specs.declared.Transmission.{Transmission}
 use Rattle.wait.specs.declared.Wait.{Wait}
 use Rattle.bus_result.proofs.bus_result.Goals as goal
-use Rattle.bus_result.proofs.bus_result.Goals.{After-is_ok, then-has, else-has, then-h-n, else-h-n}
+use Rattle.bus_result.proofs.bus_result.Goals.{After-is_ok, then-has, else-has}
 
 -- the call as far as the question of a wait
 module _ (c : After-is_ok) where
@@ -23,9 +22,6 @@ module _ (c : After-is_ok) where
 
   abbrev answer : Entry
   answer = result_for (state_of c.args.parts) c.head-sent.result c.args.status c.kept_counts-kept.result c.args.ts
-
-  long : LongParts c.if-has.parts
-  long = record { entries = search rules; counts = search rules }
 
   copied : state_of c.if-has.parts ≡ seen
   copied =
@@ -40,41 +36,36 @@ module _ (c : After-is_ok) where
       ]
 
   -- the owner has its entry
-  told : Delivered c.if-has.parts c.head-sent.result.owner answer c.if-h-n.parts
+  told : state_of c.deliver.new.self ≡ deliver seen c.head-sent.result.owner answer
   told =
       let owner = c.head-sent.result.owner in
-      let n = c.count_at-n in
-      elim c.if-h-n.branch [
-        | then-h-n w ↦ stores c.if-has.parts long owner n.result n.ensures.value _ c.if-h-n.parts _ w.if-h-n.true w.result.ensures w.parts-is
-        | else-h-n w ↦ leaves c.if-has.parts long owner n.result n.ensures.value _ c.if-h-n.parts w.if-h-n.false w.parts-is
-      ]
+      c.deliver.ensures ∙ ap₂ (λ (x : State) (e : Entry). deliver x owner e) copied c.result.ensures
 
   -- the call's end, with the wire and the waits that follow
   ends : (wire : List Transmission) (waits : List Wait) → let a = c.args in
-      wire ≡ drop 1 (state_of c.if-h-n.parts).wire
-      → waits ≡ begun a.status c.head-sent.result a.ts (state_of c.if-h-n.parts).waits
-      → finish Answer.done (with_clock (with_waits (with_wire (state_of c.if-h-n.parts) wire) waits) a.ts)
+      wire ≡ drop 1 (state_of c.deliver.new.self).wire
+      → waits ≡ begun a.status c.head-sent.result a.ts (state_of c.deliver.new.self).waits
+      → finish Answer.done (with_clock (with_waits (with_wire (state_of c.deliver.new.self) wire) waits) a.ts)
       ≡ do_bus_result (state_of a.parts) a.status a.counts a.ts
   unfolding do_bus_result
   ends wire waits q r =
       let a = c.args in
       let s = state_of a.parts in
       let sent = c.head-sent.result in
-      let both = told.state ∙ ap (λ (x : State). deliver x sent.owner answer) copied in
-      let all = concluded_parts s sent a.status c.kept_counts-kept.result a.ts (state_of c.if-h-n.parts) wire waits both q r in
+      let all = concluded_parts s sent a.status c.kept_counts-kept.result a.ts (state_of c.deliver.new.self) wire waits told q r in
       ap (λ (x : State). finish Answer.done (with_clock x a.ts)) (all ∙ ap₂ (λ (t : Transmission) (k : Counts). concluded s t a.status k a.ts) c.head-sent.ensures c.kept_counts-kept.ensures)
       ∙ accepted_call s _ _ _ _ c.in_ok-check.was c.check.ensures
 
 pub returns-then-is_ok-sent : goal.returns-then-is_ok-sent
 returns-then-is_ok-sent c =
     let d = (goal.at.returns-then-is_ok-sent c).After-is_ok in
-    let waits = begun_taken c.args.status c.head-sent.result c.args.ts (state_of c.if-h-n.parts).waits _ c.is_ok.ensures _ c.if-is_ok-sent.true c.wait_for.ensures in
+    let waits = begun_taken c.args.status c.head-sent.result c.args.ts (state_of c.deliver.new.self).waits _ c.is_ok.ensures _ c.if-is_ok-sent.true c.wait_for.ensures in
     ends d _ _ c.without_head-parts.ensures (c.put-parts.ensures ∙ waits)
 
 pub returns-else-is_ok-sent : goal.returns-else-is_ok-sent
 returns-else-is_ok-sent c =
     let d = (goal.at.returns-else-is_ok-sent c).After-is_ok in
-    let waits = begun_left c.args.status c.head-sent.result c.args.ts (state_of c.if-h-n.parts).waits _ c.is_ok.ensures c.if-is_ok-sent.false in
+    let waits = begun_left c.args.status c.head-sent.result c.args.ts (state_of c.deliver.new.self).waits _ c.is_ok.ensures c.if-is_ok-sent.false in
     ends d _ _ c.without_head-parts.ensures waits
 
 pub returns-in_err-check : goal.returns-in_err-check
