@@ -14,7 +14,7 @@ use Rattle.lists.specs.Order.{sort, least_over, sort_least}
 use Rattle.lists.specs.Places.{least, least_lt, without_past, keep_without}
 use Rattle.lists.specs.Sums.{keep, keep_none, keep_all}
 use Rattle.lists.specs.Tests.{split, cond_same}
-use Rattle.parts.proofs.Arrays.{Delivered, LongParts}
+use Rattle.rules.specs.Deliver.{deliver}
 use Rattle.parts.specs.Parts.{state_of}
 use Rattle.parts.specs.declared.Parts.{Parts}
 use Rattle.rules.specs.State.{State, with_inboxes, with_waits}
@@ -125,28 +125,30 @@ with_new p new = record {
 
 -- after some turns that began with parts a: what is still to come is what is left of it
 pub record Turns (ms : ℕ) (a p : Parts) : Type 0 where
-  pub long : LongParts p
   pub boxes : timed_out_all (state_of p).inboxes (overdue ms (waits_of p.waits)) ≡ timed_out_all (state_of a).inboxes (overdue ms (waits_of a.waits))
   pub rest : others ms (waits_of p.waits) ≡ others ms (waits_of a.waits)
   pub state : state_of p ≡ with_inboxes (with_waits (state_of a) (waits_of p.waits)) (state_of p).inboxes
 
 -- one more
-pub turn : (ms : ℕ) (a p q : Parts) (w : Wait) (new : Waits) → Turns ms a p → taken_of (Some w) (waits_of new) ≡ due_taken ms (waits_of p.waits) → Delivered (with_new p new) w.owner (timeout_entry w) q → Turns ms a q
+pub turn : (ms : ℕ) (a p q : Parts) (w : Wait) (new : Waits) → Turns ms a p → taken_of (Some w) (waits_of new) ≡ due_taken ms (waits_of p.waits) → state_of q ≡ deliver (state_of (with_new p new)) w.owner (timeout_entry w) → Turns ms a q
 turn ms a p q w new before taken told =
     let ws = waits_of p.waits in
     let rest = waits_of new in
-    let boxes : (state_of q).inboxes ≡ delivered (state_of p).inboxes w.owner (timeout_entry w) = ap (λ (x : State). x.inboxes) told.state in
-    let left : waits_of q.waits ≡ rest = ap (λ (x : State). x.waits) told.state in
+    let boxes : (state_of q).inboxes ≡ delivered (state_of p).inboxes w.owner (timeout_entry w) = ap (λ (x : State). x.inboxes) told in
+    let left : waits_of q.waits ≡ rest = ap (λ (x : State). x.waits) told in
     record {
-      long = told.long;
       boxes = turn_boxes ms (state_of p).inboxes (state_of q).inboxes ws rest (waits_of q.waits) w (due_next ms ws rest w taken) boxes left ∙ before.boxes;
       rest = ap (others ms) left ∙ sym (others_next ms ws rest w taken) ∙ before.rest;
-      state = turn_state (state_of a) (state_of p) (state_of q) ws rest (delivered (state_of p).inboxes w.owner (timeout_entry w)) before.state told.state;
+      state = turn_state (state_of a) (state_of p) (state_of q) ws rest (delivered (state_of p).inboxes w.owner (timeout_entry w)) before.state told;
     }
 
 -- fewer are left to end
-pub fewer : (ms : ℕ) (ws rest : List Wait) (w : Wait) → taken_of (Some w) rest ≡ due_taken ms ws → length (overdue ms rest) < length (overdue ms ws)
-fewer ms ws rest w taken = let next = ap length (due_next ms ws rest w taken) in omega arith
+pub fewer : (ms : ℕ) (p q : Parts) (w : Wait) (new : Waits) → taken_of (Some w) (waits_of new) ≡ due_taken ms (waits_of p.waits) → state_of q ≡ deliver (state_of (with_new p new)) w.owner (timeout_entry w)
+    → length (overdue ms (waits_of q.waits)) < length (overdue ms (waits_of p.waits))
+fewer ms p q w new taken told =
+    let left = ap (λ (x : State). length (overdue ms x.waits)) told in
+    let next = ap length (due_next ms (waits_of p.waits) (waits_of new) w taken) in
+    omega arith
 
 -- the last one
 pub elapsed : (ms : ℕ) (a p : Parts) (new after : Waits) → Turns ms a p → taken_of None (waits_of new) ≡ due_taken ms (waits_of p.waits) → waits_of after ≡ map (reduced ms) (waits_of new)

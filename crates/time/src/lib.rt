@@ -7,7 +7,6 @@ ghost use Rattle.rules.specs.Call.{finish, done};
 ghost use Rattle.rules.specs.Time.{do_time};
 
 use entry::Entry;
-use inbox::count_at;
 use parts::Parts;
 
 // Each wait with no more left than that ends by an entry for its owner, with the sent length, bytes and time and the opcode wanted, least time left first, oldest first where equal. Others are reduced.
@@ -15,17 +14,10 @@ pub fn time(mut parts: Parts, ms: u32) -> Parts
     ensures { finish done (state_of result) ≡ do_time (state_of parts) ms }
 {
     while let Some(wait) = parts.waits.take_due(ms) {
-        let n = count_at(parts.counts, wait.owner);
-        let h = wait.owner as usize;
-        if (h < 8) & (n < 16) {
-            parts.entries[16 * h + n] = Entry::timed_out(
-                wait.sequence,
-                wait.sent,
-                wait.reply,
-                wait.tx_ts,
-            );
-            parts.counts[h] = n + 1;
-        }
+        parts.deliver(
+            wait.owner,
+            Entry::timed_out(wait.sequence, wait.sent, wait.reply, wait.tx_ts),
+        );
     }
     parts.waits = parts.waits.reduced(ms);
     parts
