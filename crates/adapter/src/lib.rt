@@ -181,12 +181,7 @@ impl Adapter {
         ensures result_value { done_of result ≡ step (state_of self) (call_message length bytes ts) }
         ensures value { result.errno ≢ 0 → result ≡ refused_call self result.errno }
     {
-        let heard = incoming::message(self.parts, length, bytes, ts);
-        let parts = heard.parts;
-        Done {
-            adapter: Adapter { parts: parts },
-            errno: heard.errno,
-        }
+        self.done(incoming::message(self.parts, length, bytes, ts))
     }
 
     // Milliseconds passed.

@@ -11,7 +11,7 @@ use Rattle.handle.specs.declared.Handle.{Handle}
 use Rattle.incoming.proofs.Copied.{copies_only, monitors_same}
 use Rattle.incoming.proofs.Receivers.{receivers_copies}
 use Rattle.incoming.proofs.Turns.{do_all, do_copies, do_note, do_reply, do_send, done_all, heard_all_lem}
-use Rattle.incoming.specs.Steps.{goes_on, monitor_kind, receivers_of}
+use Rattle.incoming.specs.Steps.{goes_on, monitor_kind, noted_at, receivers_of}
 use Rattle.incoming.specs.Work.{arrival_of, to_do_of}
 use Rattle.incoming.specs.declared.Arrival.{Arrival}
 use Rattle.incoming.specs.declared.ToDo.{ToDo}
@@ -26,99 +26,48 @@ use Rattle.rules.specs.Call.{Answer, finish}
 use Rattle.rules.specs.Deliver.{copies, deliver}
 use Rattle.rules.specs.Handles.{in_role, is_here}
 use Rattle.rules.specs.Incoming.{heard, incoming_refusal, monitors}
-use Rattle.rules.specs.State.{State, with_handles, with_inboxes, with_waits, with_active, with_clock}
+use Rattle.rules.specs.State.{State, with_handles, with_inboxes, with_waits, with_active, with_clock, with_noted}
 use Rattle.rules.specs.Tracker.{active_after_message, do_message}
 use Rattle.wait.specs.declared.Wait.{Wait}
 
--- the parts q come from p with this state, and are p itself if nothing is to be done
-abbrev pub Change : Parts → State → Type 0 → Parts → Type 0
-Change p s nothing q = (state_of q ≡ s) × (nothing → q ≡ p)
-
 -- what copies change, stored in the parts
-pub copied_change : (p r : Parts) (f : Handle → Bool) (e : Entry) (nothing : Type 0) → state_of r ≡ copies f e (state_of p) → (nothing → r ≡ p)
-    → Change p (copies f e (state_of p)) nothing (with_changed p r.handles r.counts r.entries p.active p.clock)
-copied_change p r f e nothing s n = (
-  ap (λ (t : State). with_inboxes (with_handles (state_of p) t.handles) t.inboxes) s ∙ sym (copies_only f e (state_of p)),
-  λ z. ap (λ (x : Parts). with_changed p x.handles x.counts x.entries p.active p.clock) (n z),
-)
+pub copied_change : (p r : Parts) (f : Handle → Bool) (e : Entry) → state_of r ≡ copies f e (state_of p)
+    → state_of (with_changed p r.handles r.counts r.entries p.active p.clock) ≡ copies f e (state_of p)
+copied_change p r f e s = ap (λ (t : State). with_inboxes (with_handles (state_of p) t.handles) t.inboxes) s ∙ sym (copies_only f e (state_of p))
 
-outcome : (errno length : ℕ) (bytes : List ℕ) (ts : ℕ) (m : Message) (active clock : ℕ) (here : Bool) (kind : Option Receivers) (x : ToDo) (p0 p1 p2 p3 p4 p5 : Parts)
-    → errno ≡ incoming_refusal p0.clock length ts
-    → m ≡ message length bytes
-    → active ≡ cond (eqb errno 0) (active_after_message (state_of p0) m) p0.active
-    → clock ≡ cond (eqb errno 0) ts p0.clock
-    → here ≡ is_here (state_of p0) (destination m.bytes)
-    → kind ≡ receivers_of (eqb errno 0) (state_of p0).handles (monitor_kind here)
-    → x ≡ to_do_of (state_of p1) (eqb errno 0 && goes_on (state_of p1) m) m
-    → Change p0 (copies (in_role (gets_copies kind)) (message_copy m ts) (state_of p0)) (kind ≡ None) p1
-    → Change p1 (do_reply x m ts (state_of p1)) (x.ended ≡ None) p2
-    → Change p2 (do_note x m (state_of p2)) (x.notes ≡ false) p3
-    → Change p3 (do_send x (state_of p3)) (x.sends ≡ None) p4
-    → Change p4 (do_copies x m ts (state_of p4)) (x.followers ≡ None) p5
-    → (done_of (record { parts = moved_parts p5 active clock; errno = errno }) ≡ do_message (state_of p0) length bytes ts) × (errno ≢ 0 → moved_parts p5 active clock ≡ p0)
-unfolding do_message
-outcome errno length bytes ts m active clock here kind x p0 p1 p2 p3 p4 p5 refusal made tracks ticks at monitored todo c1 c2 c3 c4 c5 =
-    let s = state_of p0 in
-    let u = state_of p1 in
+-- the state after a message that is accepted
+abbrev pub after_message : State → ℕ → Message → State
+after_message s ts m = with_clock (with_active (heard s m ts) (active_after_message s m)) ts
+
+-- the six steps one after the other, from s to s5, then the tracker and the clock
+pub message_outcome : (a : Arrival) (x : ToDo) (m : Message) (ts : ℕ) (s s1 s2 s3 s4 s5 : State)
+    → a ≡ arrival_of s m
+    → x ≡ to_do_of s1 (goes_on s1 m) m
+    → s1 ≡ copies (in_role (gets_copies a.monitors)) (message_copy m ts) s
+    → s2 ≡ do_reply x m ts s1
+    → s3 ≡ do_note x m s2
+    → s4 ≡ do_send x s3
+    → s5 ≡ do_copies x m ts s4
+    → with_clock (with_active s5 a.active) ts ≡ after_message s ts m
+message_outcome a x m ts s s1 s2 s3 s4 s5 came todo c1 c2 c3 c4 c5 =
+    let here = is_here s (destination m.bytes) in
     let e = message_copy m ts in
-    let same : errno ≢ 0 → moved_parts p5 active clock ≡ p0 =
-    λ n. let f = ne_eqb errno 0 n in
-    let nothing : x ≡ to_do_of u false m = todo ∙ ap (λ (b : Bool). to_do_of u (b && goes_on u m) m) f in
-    ap₂ (moved_parts p5) (tracks ∙ rw f) (ticks ∙ rw f) ∙ ap (λ (p : Parts). moved_parts p p0.active p0.clock) (c5.1 (ap (λ (y : ToDo). y.followers) nothing)
-    ∙ c4.1 (ap (λ (y : ToDo). y.sends) nothing)
-    ∙ c3.1 (ap (λ (y : ToDo). y.notes) nothing)
-    ∙ c2.1 (ap (λ (y : ToDo). y.ended) nothing)
-    ∙ c1.1 (monitored ∙ ap (λ (b : Bool). receivers_of b s.handles (monitor_kind here)) f)) in
-    let all : state_of p5 ≡ do_all x m ts u = c5.0 ∙ ap (do_copies x m ts) (c4.0 ∙ ap (do_send x) (c3.0 ∙ ap (do_note x m) c2.0)) in
-    let copied : eqb errno 0 ≡ true → u ≡ copies (in_role (monitors s m)) e s =
-    λ f. c1.0
-    ∙ ap (λ (k : Option Receivers). copies (in_role (gets_copies k)) e s) monitored
-    ∙ receivers_copies (eqb errno 0) (monitor_kind here) e s
-    ∙ ap (λ (b : Bool). cond b (copies (in_role (gets_copies (Some (monitor_kind here)))) e s) s) f
-    ∙ monitors_same s m here e at in
-    let heard_all : eqb errno 0 ≡ true → state_of p5 ≡ heard s m ts =
-    λ f. heard_all_lem s u (state_of p5) m ts (copied f)
-    (all ∙ ap (λ (y : ToDo). do_all y m ts u) (todo ∙ ap (λ (b : Bool). to_do_of u (b && goes_on u m) m) f) ∙ done_all u (goes_on u m) m ts) in
-    let after : Message → State = λ n. with_clock (with_active (heard s n ts) (active_after_message s n)) ts in
-    let taken = finish Answer.done (after (message length bytes)) in
-    let moved : State → State = λ t. with_clock (with_active t active) clock in
-    let heard_so : eqb errno 0 ≡ true → moved (state_of p5) ≡ after m =
-    λ f. ap moved (heard_all f) ∙ ap₂ (λ (a k : ℕ). with_clock (with_active (heard s m ts) a) k) (tracks ∙ rw f) (ticks ∙ rw f) in (
-      split (eqb errno 0)
-          (λ f. taken_outcome s (moved (state_of p5)) taken Answer.done errno _ refusal (eqb-true errno 0 f) (ap (finish Answer.done) (heard_so f ∙ ap after made)))
-          (λ f. let z = eqb-false errno 0 f in
-          ap (λ (p : Parts). finish (or_refused errno Answer.done) (state_of p)) (same z) ∙ refused_outcome s taken Answer.done errno _ refusal z),
-      same,
-    )
+    let all : s5 ≡ do_all x m ts s1 = c5 ∙ ap (do_copies x m ts) (c4 ∙ ap (do_send x) (c3 ∙ ap (do_note x m) c2)) in
+    let copied : s1 ≡ copies (in_role (monitors s m)) e s =
+    c1
+    ∙ ap (λ (y : Arrival). copies (in_role (gets_copies y.monitors)) e s) came
+    ∙ receivers_copies true (monitor_kind here) e s
+    ∙ monitors_same s m here e refl in
+    let heard_all : s5 ≡ heard s m ts = heard_all_lem s s1 s5 m ts copied (all ∙ ap (λ (y : ToDo). do_all y m ts s1) todo ∙ done_all s1 (goes_on s1 m) m ts) in
+    ap₂ (λ (t : State) (y : Arrival). with_clock (with_active t y.active) ts) heard_all came
 
--- the same, from the arrival
-by_arrival : (a : Arrival) (s : State) (n : ℕ) (bytes : List ℕ) (ts : ℕ) → a ≡ arrival_of s n bytes ts
-    → (a.errno ≡ incoming_refusal s.clock n ts)
-    × (a.message ≡ message n bytes)
-    × (a.active ≡ cond (eqb a.errno 0) (active_after_message s a.message) s.active)
-    × (a.clock ≡ cond (eqb a.errno 0) ts s.clock)
-    × (a.monitors ≡ receivers_of (eqb a.errno 0) s.handles (monitor_kind (is_here s (destination a.message.bytes))))
-by_arrival a s n bytes ts e = rw e (refl, refl, refl, refl, refl)
+-- a reply, once its entry is delivered
+pub replied_state : (s t : State) (ws vs : List Wait) (h : ℕ) (e d : Entry) → vs ≡ ws → e ≡ d → t ≡ deliver (with_waits s vs) h e → t ≡ deliver (with_waits s ws) h d
+replied_state s t ws vs h e d v q r = r ∙ rw (v, q)
 
-module _ (a : Arrival) (n : ℕ) (bytes : List ℕ) (ts : ℕ) (x : ToDo) (p0 p1 p2 p3 p4 p5 : Parts) where
-  pub message_outcome : a ≡ arrival_of (state_of p0) n bytes ts
-      → x ≡ to_do_of (state_of p1) (eqb a.errno 0 && goes_on (state_of p1) a.message) a.message
-      → Change p0 (copies (in_role (gets_copies a.monitors)) (message_copy a.message ts) (state_of p0)) (a.monitors ≡ None) p1
-      → Change p1 (do_reply x a.message ts (state_of p1)) (x.ended ≡ None) p2
-      → Change p2 (do_note x a.message (state_of p2)) (x.notes ≡ false) p3
-      → Change p3 (do_send x (state_of p3)) (x.sends ≡ None) p4
-      → Change p4 (do_copies x a.message ts (state_of p4)) (x.followers ≡ None) p5
-      → (done_of (record { parts = moved_parts p5 a.active a.clock; errno = a.errno }) ≡ do_message (state_of p0) n bytes ts) × (a.errno ≢ 0 → moved_parts p5 a.active a.clock ≡ p0)
-  message_outcome e todo =
-      let s = state_of p0 in
-      let m = a.message in
-      let q = by_arrival a s n bytes ts e in
-      outcome a.errno n bytes ts m a.active a.clock (is_here s (destination m.bytes)) a.monitors x p0 p1 p2 p3 p4 p5 q.0 q.1 q.2 q.3 refl q.4 todo
+-- the noted address is stored, or nothing is
+pub note_stored : (s t : State) (notes : Bool) (noted : List ℕ) (m : Message) → notes ≡ true → noted ≡ noted_at s.noted m → t ≡ with_noted s noted → t ≡ cond notes (with_noted s (noted_at s.noted m)) s
+note_stored s t notes noted m b q r = r ∙ rw (b, q)
 
--- a reply, once its entry is stored
-pub replied_state : (s : State) (ws vs : List Wait) (is : List (List Entry)) (h : ℕ) (e d : Entry)
-    → vs ≡ ws
-    → e ≡ d
-    → is ≡ delivered s.inboxes h e
-    → with_inboxes (with_waits s vs) is ≡ deliver (with_waits s ws) h d
-replied_state s ws vs is h e d v q r = rw (r, v, q)
+pub note_left : (s t : State) (notes : Bool) (m : Message) → notes ≡ false → t ≡ s → t ≡ cond notes (with_noted s (noted_at s.noted m)) s
+note_left s t notes m b r = r ∙ rw b

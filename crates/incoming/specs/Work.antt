@@ -1,33 +1,26 @@
 -- A message as it comes, and what is to be done with it in steps 3 to 6, from the state after the monitors' copies (document 01, "A message from the wire").
 -- Assumes nothing.
-use Rattle.std.specs.Prelude.{ℕ, Bool, false, cond, List, ◌==◌, Option, None, is_some}
+use Rattle.std.specs.Prelude.{Bool, true, false, cond, Option, None, is_some}
 use Rattle.core_answers.specs.Work.{work_of}
 use Rattle.incoming.specs.Steps.{follower_kind, monitor_kind, receivers_of}
 use Rattle.incoming.specs.Ending.{ended_by, to_followers}
 use Rattle.incoming.specs.declared.Arrival.{Arrival}
 use Rattle.incoming.specs.declared.Ended.{Ended}
 use Rattle.incoming.specs.declared.ToDo.{ToDo}
-use Rattle.message.specs.Message.{destination, message}
+use Rattle.message.specs.Message.{destination}
 use Rattle.message.specs.declared.Message.{Message}
 use Rattle.rules.specs.Handles.{is_here}
-use Rattle.rules.specs.Incoming.{incoming_refusal}
 use Rattle.rules.specs.State.{State}
 use Rattle.rules.specs.Tracker.{active_after_message}
 use Rattle.steps.specs.Steps.{chosen_of}
 use Rattle.steps.specs.declared.Chosen.{Chosen}
 
--- the checks and step 1; the tracker and the clock (document 02, W-205 and W-208)
-abbrev pub arrival_of : State → ℕ → List ℕ → ℕ → Arrival
-arrival_of s n bytes ts =
-    let errno = incoming_refusal s.clock n ts in
-    let m = message n bytes in
-    record {
-      errno = errno;
-      message = m;
-      active = cond (errno == 0) (active_after_message s m) s.active;
-      clock = cond (errno == 0) ts s.clock;
-      monitors = receivers_of (errno == 0) s.handles (monitor_kind (is_here s (destination m.bytes)));
-    }
+-- step 1 and the tracker (document 02, W-205)
+abbrev pub arrival_of : State → Message → Arrival
+arrival_of s m = record {
+  monitors = receivers_of true s.handles (monitor_kind (is_here s (destination m.bytes)));
+  active = active_after_message s m;
+}
 
 -- the steps' tests, from a state and the wait that the message ends
 abbrev pub chosen_for : State → Option Ended → Message → Chosen

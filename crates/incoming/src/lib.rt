@@ -1,8 +1,8 @@
 // A message from the wire, in six steps, for the tracker and for the clock.
 #![tactic(auto)]
 
-ghost use Rattle.std.specs.Prelude.{◌≡◌, ◌≢◌, if◌then◌else◌};
-ghost use Rattle.parts.specs.Parts.{state_of, done_of};
+ghost use Rattle.std.specs.Prelude.{◌≡◌};
+ghost use Rattle.parts.specs.Parts.{state_of, errno_of, parts_outcome};
 ghost use Rattle.rules.specs.Handles.{is_here};
 ghost use Rattle.rules.specs.Incoming.{incoming_refusal};
 ghost use Rattle.rules.specs.Tracker.{active_after_message, do_message};
@@ -13,25 +13,21 @@ ghost use Rattle.waits.specs.Waits.{waits_of};
 
 mod step;
 
-use constants::{CEC_LOG_ADDR_BROADCAST, EINVAL};
+use constants::{CEC_LOG_ADDR_BROADCAST, Errno};
 use copies::Receivers;
 use entry::Entry;
-use inbox::count_at;
 use message::Message;
 use message::reply::Rule;
-use parts::{Done, Parts, check, clock_errno};
+use parts::{Parts, check_time};
 use transmission::Transmission;
 use wait::Wait;
 use waits::Waits;
 
-// A message as it comes: its errno, the active address and the clock afterwards, and which monitors get a copy.
+// What a message does before the later steps: which monitors get a copy, and the active address afterwards.
 #[derive(Clone, Copy)]
 struct Arrival {
-    errno: u32,
-    message: Message,
-    active: u16,
-    clock: u64,
     monitors: Option<Receivers>,
+    active: u16,
 }
 
 // A wait that a message ends: its place, the wait, and the rule by which the message is the reply.
@@ -51,14 +47,14 @@ struct ToDo {
     followers: Option<Receivers>,
 }
 
-fn message_errno(clock: u64, length: u8, ts: u64) -> u32
-    ensures { result ≡ incoming_refusal clock length ts }
+#[tactic(auto, unfolding(rules::specs::Call::check))]
+fn check(clock: u64, length: u8, ts: u64) -> Result<(), Errno>
+    ensures { errno_of result ≡ incoming_refusal clock length ts }
 {
-    check(
-        !((1 <= length) & (length <= 16)),
-        EINVAL,
-        clock_errno(clock, ts),
-    )
+    if length < 1 || 16 < length {
+        return Err(Errno::EINVAL);
+    }
+    check_time(clock, ts)
 }
 
 fn is_here(parts: Parts, address: u8) -> bool
@@ -148,60 +144,45 @@ fn later_steps(parts: Parts, further: bool, message: Message) -> ToDo
     }
 }
 
-// The active address afterwards: an accepted message is heard while configured.
-fn active_after(parts: Parts, accepted: bool, message: Message) -> u16
-    ensures { result ≡ (if accepted then active_after_message (state_of parts) message else parts.active) }
+// The active address afterwards: a message is heard while configured.
+fn active_after(parts: Parts, message: Message) -> u16
+    ensures { result ≡ active_after_message (state_of parts) message }
 {
-    if accepted & parts.is_configured() {
+    if parts.is_configured() {
         tracker::tracked(parts.active, message)
     } else {
         parts.active
     }
 }
 
-// The clock afterwards: an accepted message moves it.
-fn clock_after(clock: u64, accepted: bool, ts: u64) -> u64
-    ensures { result ≡ (if accepted then ts else clock) }
+// Step 1 and the tracker.
+fn arrived(parts: Parts, message: Message) -> Arrival
+    ensures { result ≡ arrival_of (state_of parts) message }
 {
-    if accepted { ts } else { clock }
-}
-
-// What the checks say, and for step 1 which monitors get a copy.
-fn arrived(parts: Parts, length: u8, bytes: [u8; 16], ts: u64) -> Arrival
-    ensures { result ≡ arrival_of (state_of parts) length bytes ts }
-{
-    let errno = message_errno(parts.clock, length, ts);
-    let message = Message::new(length, bytes);
-    let handles = parts.handles;
     let here = is_here(parts, message.destination());
     Arrival {
-        errno,
-        message,
-        active: active_after(parts, errno == 0, message),
-        clock: clock_after(parts.clock, errno == 0, ts),
-        monitors: step::receivers(errno == 0, handles, monitor_kind(here)),
+        monitors: step::receivers(true, parts.handles, monitor_kind(here)),
+        active: active_after(parts, message),
     }
 }
 
 // The six steps as `arrived` and `later_steps` say them, then the tracker and the clock. Of the followers' copies only what they change is stored: to store the parts as a whole would move them once more.
-pub fn message(mut parts: Parts, length: u8, bytes: [u8; 16], ts: u64) -> Done
-    ensures result_value { done_of result ≡ do_message (state_of parts) length bytes ts }
-    ensures parts_value { result.errno ≢ 0 → result.parts ≡ parts }
+pub fn message(mut parts: Parts, length: u8, bytes: [u8; 16], ts: u64) -> Result<Parts, Errno>
+    ensures { parts_outcome (state_of parts) result ≡ do_message (state_of parts) length bytes ts }
 {
-    let came = arrived(parts, length, bytes, ts);
-    let message = came.message;
+    check(parts.clock, length, ts)?;
+    let message = Message::new(length, bytes);
+    let came = arrived(parts, message);
     if came.monitors.is_some() {
         parts = copies::copies(parts, came.monitors, Entry::message_copy(message, ts));
     }
-    let to_do = later_steps(parts, (came.errno == 0) & goes_on(parts, message), message);
+    let to_do = later_steps(parts, goes_on(parts, message), message);
     if let Some(ended) = to_do.ended {
         parts.waits = parts.waits.without(ended.place);
-        let n = count_at(parts.counts, ended.wait.owner);
-        let h = ended.wait.owner as usize;
-        if (h < 8) & (n < 16) {
-            parts.entries[16 * h + n] = step::reply_entry(ended.rule, ended.wait, message, ts);
-            parts.counts[h] = n + 1;
-        }
+        parts.deliver(
+            ended.wait.owner,
+            step::reply_entry(ended.rule, ended.wait, message, ts),
+        );
     }
     if to_do.notes {
         parts.noted = step::noted(parts.noted, message);
@@ -219,9 +200,6 @@ pub fn message(mut parts: Parts, length: u8, bytes: [u8; 16], ts: u64) -> Done
         parts.entries = entries;
     }
     parts.active = came.active;
-    parts.clock = came.clock;
-    Done {
-        parts,
-        errno: came.errno,
-    }
+    parts.clock = ts;
+    Ok(parts)
 }
