@@ -55,7 +55,7 @@ outcome : (errno length : ℕ) (bytes : List ℕ) (ts : ℕ) (m : Message) (acti
     → Change p2 (do_note x m (state_of p2)) (x.notes ≡ false) p3
     → Change p3 (do_send x (state_of p3)) (x.sends ≡ None) p4
     → Change p4 (do_copies x m ts (state_of p4)) (x.followers ≡ None) p5
-    → (done_of (record { parts = moved_parts p5 active clock; errno = errno }) ≡ do_message (state_of p0) length bytes ts) × (errno ≢ 0 → moved_parts p5 active clock ≡ p0)
+    → done_of (record { parts = moved_parts p5 active clock; errno = errno }) ≡ do_message (state_of p0) length bytes ts
 unfolding do_message
 outcome errno length bytes ts m active clock here kind x p0 p1 p2 p3 p4 p5 refusal made tracks ticks at monitored todo c1 c2 c3 c4 c5 =
     let s = state_of p0 in
@@ -83,13 +83,11 @@ outcome errno length bytes ts m active clock here kind x p0 p1 p2 p3 p4 p5 refus
     let taken = finish Answer.done (after (message length bytes)) in
     let moved : State → State = λ t. with_clock (with_active t active) clock in
     let heard_so : eqb errno 0 ≡ true → moved (state_of p5) ≡ after m =
-    λ f. ap moved (heard_all f) ∙ ap₂ (λ (a k : ℕ). with_clock (with_active (heard s m ts) a) k) (tracks ∙ rw f) (ticks ∙ rw f) in (
-      split (eqb errno 0)
-          (λ f. taken_outcome s (moved (state_of p5)) taken Answer.done errno _ refusal (eqb-true errno 0 f) (ap (finish Answer.done) (heard_so f ∙ ap after made)))
-          (λ f. let z = eqb-false errno 0 f in
-          ap (λ (p : Parts). finish (or_refused errno Answer.done) (state_of p)) (same z) ∙ refused_outcome s taken Answer.done errno _ refusal z),
-      same,
-    )
+    λ f. ap moved (heard_all f) ∙ ap₂ (λ (a k : ℕ). with_clock (with_active (heard s m ts) a) k) (tracks ∙ rw f) (ticks ∙ rw f) in
+    split (eqb errno 0)
+    (λ f. taken_outcome s (moved (state_of p5)) taken Answer.done errno _ refusal (eqb-true errno 0 f) (ap (finish Answer.done) (heard_so f ∙ ap after made)))
+    (λ f. let z = eqb-false errno 0 f in
+    ap (λ (p : Parts). finish (or_refused errno Answer.done) (state_of p)) (same z) ∙ refused_outcome s taken Answer.done errno _ refusal z)
 
 -- the same, from the arrival
 by_arrival : (a : Arrival) (s : State) (n : ℕ) (bytes : List ℕ) (ts : ℕ) → a ≡ arrival_of s n bytes ts
@@ -108,7 +106,7 @@ module _ (a : Arrival) (n : ℕ) (bytes : List ℕ) (ts : ℕ) (x : ToDo) (p0 p1
       → Change p2 (do_note x a.message (state_of p2)) (x.notes ≡ false) p3
       → Change p3 (do_send x (state_of p3)) (x.sends ≡ None) p4
       → Change p4 (do_copies x a.message ts (state_of p4)) (x.followers ≡ None) p5
-      → (done_of (record { parts = moved_parts p5 a.active a.clock; errno = a.errno }) ≡ do_message (state_of p0) n bytes ts) × (a.errno ≢ 0 → moved_parts p5 a.active a.clock ≡ p0)
+      → done_of (record { parts = moved_parts p5 a.active a.clock; errno = a.errno }) ≡ do_message (state_of p0) n bytes ts
   message_outcome e todo =
       let s = state_of p0 in
       let m = a.message in
