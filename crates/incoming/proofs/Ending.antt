@@ -1,16 +1,14 @@
 -- The wait that a message ends: found by the code, and by `rules`.
 -- Assumes nothing.
-use Rattle.std.proofs.Common.{◌≡◌, ℕ, Bool, true, false, cond, not, eqb, List, length, get_or, sym, refl, ap, ◌∙◌, ltb-true, Option, Some, None, is_some}
+use Rattle.std.proofs.Common.{◌≡◌, ℕ, Bool, true, false, cond, not, eqb, List, length, get_or, sym, refl, ◌∙◌, ltb-true, Option, Some, None, is_some}
 use Rattle.entry.specs.Entry.{reply, feature_abort_reply}
 use Rattle.incoming.specs.Ending.{ended_at, ended_by, rule_of, to_followers}
 use Rattle.incoming.specs.Steps.{entry_by_rule}
 use Rattle.incoming.specs.declared.Ended.{Ended}
 use Rattle.lists.specs.Places.{first, first_passes, without}
 use Rattle.lists.specs.Tests.{split}
-use Rattle.message.specs.Rule.{RULE-NONE, RULE-FEATURE-ABORT, RULE-WANTED-OPCODE, rule_number}
+use Rattle.message.specs.Rule.{RULE-NONE, RULE-FEATURE-ABORT, RULE-WANTED-OPCODE}
 use Rattle.message.specs.declared.Message.{Message}
-use Rattle.message.specs.declared.reply.Rule.{Rule}
-use Rattle.message.specs.declared.reply.Rule.TheVariants.{FeatureAbort, WantedOpcode, ArcPair}
 use Rattle.rules.proofs.Opcodes.{rule_abort}
 use Rattle.rules.specs.Deliver.{deliver}
 use Rattle.rules.specs.Incoming.{replied}
@@ -18,26 +16,7 @@ use Rattle.rules.specs.State.{State, with_waits}
 use Rattle.wait.specs.Wait.{answered_by, no_wait, rule_for}
 use Rattle.wait.specs.declared.Wait.{Wait}
 use Rattle.waits.proofs.Matches.{match_found}
-use Rattle.waits.specs.Waits.{NumberedMatch, match_in, numbered_match, taken_at}
-
--- a rule is that of its number
-rule_again : (o : Option Rule) → rule_of (rule_number o) ≡ o
-rule_again None = refl
-rule_again (Some FeatureAbort) = refl
-rule_again (Some WantedOpcode) = refl
-rule_again (Some ArcPair) = refl
-
-module _ (m : Message) (ws : List Wait) (n : ℕ) where
-  pub ended_none : numbered_match n None ≡ match_in m ws → None ≡ ended_by m ws
-  ended_none e = rw (← ap (λ (x : NumberedMatch). x.rule) e)
-
-  pub ended_some : (place : ℕ) (rule : Rule) → numbered_match n (Some (record { place = place; rule = rule })) ≡ match_in m ws
-      → Some (record { place = place; wait = get_or ws place no_wait; rule = rule }) ≡ ended_by m ws
-  ended_some place rule e =
-      let at : place ≡ first (answered_by m) ws = ap (λ (x : NumberedMatch). x.place) e in
-      let by : rule_number (Some rule) ≡ rule_for m (get_or ws (first (answered_by m) ws) no_wait) = ap (λ (x : NumberedMatch). x.rule) e in
-      ap (ended_at place (get_or ws place no_wait)) (sym (rule_again (Some rule)) ∙ ap rule_of by)
-      ∙ ap (λ (i : ℕ). ended_at i (get_or ws i no_wait) (rule_of (rule_for m (get_or ws (first (answered_by m) ws) no_wait)))) at
+use Rattle.waits.specs.Waits.{taken_at}
 
 -- what its end does
 abbrev pub end_wait : Option Ended → Message → ℕ → State → State
