@@ -185,8 +185,7 @@ fn lacking(byte: u8, count: usize) -> usize
 
 // Appends bytes to a record of which some have come, until it is whole or there are no more; says how many.
 fn gather(bytes: &mut [u8; 28], cursor: Cursor, portion: &[u8]) -> usize
-    requires bytes_len { length bytes.old ≡ 28 }
-    requires in_bounds { 1 ≤ length portion.now }
+    requires { 1 ≤ length portion.now }
     ensures portion_value { gather (take cursor.count bytes.old) portion.now ≡ take (at_most28 cursor.count + result) bytes.new }
     ensures portion_value_2 { gathered (take cursor.count bytes.old) portion.now ≡ result }
     ensures bytes_len_2 { length bytes.new ≡ 28 }
