@@ -2,8 +2,7 @@
 -- Assumes nothing.
 use Rattle.std.proofs.Common.{ℕ, ◌+◌, ◌-◌, ◌<◌, ◌≤◌, List, [], ◌∷◌, ◌++◌, ◌≡◌, ◌⊎◌, Bool, true, false, true≢false, cond, length, take, drop, refl, sym, ap, ap₂, ◌∙◌, subst, arith, append_assoc, append-nil, length-append, inl, inr, None, Some, IfSome, Result, Ok, Err, OnOk}
 use borrow.Author.Tests.{le-ltb}
-use lib.ListN.{length-drop}
-use lib.Seq.{take-length, take-append_seam, drop-drop}
+use lib.Seq.{take-length, take-append_seam}
 use Rattle.std.specs.declared.option.Option.{Option}
 use Rattle.std.specs.Io.KnownBytes.{Appends, Consumes, IsAtEnd}
 use Rattle.std.proofs.KnownBytes.{Appends-nil, Appends-trans, Consumes-trans}
@@ -46,9 +45,6 @@ fed_rest s bytes room =
     let t = taken s bytes room in
     (sym c.1, sym (ap (λ (x : List ℕ). x ++ (fed t.session (drop t.taken bytes)).text) (sym (append-nil t.text)) ∙ c.0))
 
-all_left : (l : List ℕ) (n : ℕ) → take (length l - n) (drop n l) ≡ drop n l
-all_left l n = rw (sym (length-drop n l)) (take-length (drop n l))
-
 add-zero : (n : ℕ) → n + 0 ≡ n
 add-zero n = omega arith
 
@@ -75,20 +71,18 @@ went_on first s portion rest a b c room w p =
     }
 
 -- what a feed gives, from a part of the portion on
-pub went_fed : (first s : Session) (portion : List ℕ) (n : ℕ) (out out' : List ℕ) (r : Fed) (a b c : Option (List ℕ))
-    → given_of r out' ≡ given_by (taken s (take (length portion - n) (drop n portion)) (length out)) out
+pub went_fed : (first s : Session) (portion rest : List ℕ) (out out' : List ℕ) (r : Fed) (a b c : Option (List ℕ))
+    → given_of r out' ≡ given_by (taken s rest (length out)) out
     → Appends b c (take r.written out')
-    → Went first s portion (drop n portion) a b
-    → Went first (session_of r.player) portion (drop (n + r.taken) portion) a c
-went_fed first s portion n out out' r a b c e p w =
-    let rest = drop n portion in
+    → Went first s portion rest a b
+    → Went first (session_of r.player) portion (drop r.taken rest) a c
+went_fed first s portion rest out out' r a b c e p w =
     let t = taken s rest (length out) in
-    let g : given_of r out' ≡ given_by t out = e ∙ ap (λ (l : List ℕ). given_by (taken s l (length out)) out) (all_left portion n) in
     let text : take r.written out' ≡ t.text =
-    ap (λ (x : Given). take x.written x.out) g ∙ take-append_seam t.text (drop (length t.text) out) in
+    ap (λ (x : Given). take x.written x.out) e ∙ take-append_seam t.text (drop (length t.text) out) in
     let went = went_on first s portion rest a b c (length out) w (subst (Appends b c) text p) in
-    let same : drop t.taken rest ≡ drop (n + r.taken) portion = ap (λ (x : Given). drop x.taken rest) (sym g) ∙ drop-drop r.taken n portion in
-    subst (λ (x : Session). Went first x portion (drop (n + r.taken) portion) a c) (ap (λ (x : Given). x.session) (sym g))
+    let same : drop t.taken rest ≡ drop r.taken rest = ap (λ (x : Given). drop x.taken rest) (sym e) in
+    subst (λ (x : Session). Went first x portion (drop r.taken rest) a c) (ap (λ (x : Given). x.session) (sym e))
     (subst (λ (l : List ℕ). Went first t.session portion l a c) same went)
 
 -- where nothing was taken, though there was room, nothing is to be played
@@ -108,24 +102,22 @@ went_end first s portion rest a b w e = (
   subst (Appends a b) (sym (w.text_is ∙ ap (λ (p : Printed). w.lines ++ p.text) e ∙ append-nil w.lines)) w.wrote,
 )
 
-pub went_none : (first s : Session) (portion : List ℕ) (n : ℕ) (out out' : List ℕ) (r : Fed) (a b c : Option (List ℕ))
-    → given_of r out' ≡ given_by (taken s (take (length portion - n) (drop n portion)) (length out)) out
+pub went_none : (first s : Session) (portion rest : List ℕ) (out out' : List ℕ) (r : Fed) (a b c : Option (List ℕ))
+    → given_of r out' ≡ given_by (taken s rest (length out)) out
     → Appends b c (take r.written out')
-    → Went first s portion (drop n portion) a b
+    → Went first s portion rest a b
     → 29 ≤ length out
     → r.taken ≡ 0
     → (session_of r.player ≡ (fed first portion).session) × Appends a c (fed first portion).text
-went_none first s portion n out out' r a b c e p w h z =
-    let rest = drop n portion in
+went_none first s portion rest out out' r a b c e p w h z =
     let t = taken s rest (length out) in
-    let g : given_of r out' ≡ given_by t out = e ∙ ap (λ (l : List ℕ). given_by (taken s l (length out)) out) (all_left portion n) in
-    let k : t.taken ≡ 0 = ap (λ (x : Given). x.taken) (sym g) ∙ z in
+    let k : t.taken ≡ 0 = ap (λ (x : Given). x.taken) (sym e) ∙ z in
     let none = none_taken s rest (length out) h k in
-    let here : session_of r.player ≡ t.session = ap (λ (x : Given). x.session) g in
+    let here : session_of r.player ≡ t.session = ap (λ (x : Given). x.session) e in
     let still : fed (session_of r.player) rest ≡ record { session = session_of r.player; text = [] } =
     subst (λ (x : Session). fed x rest ≡ record { session = x; text = [] }) (sym here) none in
-    let went = went_fed first s portion n out out' r a b c e p w in
-    let same : drop (n + r.taken) portion ≡ rest = ap (λ (m : ℕ). drop m portion) (ap (λ (m : ℕ). n + m) z ∙ add-zero n) in
+    let went = went_fed first s portion rest out out' r a b c e p w in
+    let same : drop r.taken rest ≡ rest = ap (λ (m : ℕ). drop m rest) z in
     went_end first (session_of r.player) portion rest a c (subst (λ (l : List ℕ). Went first (session_of r.player) portion l a c) same went) still
 
 -- The portions so far were played, and one more was read: the session, the lines, and the bytes that the log has left.

@@ -24,16 +24,15 @@ fn play_portion<W: Write>(
     ensures out_len_unchanged { length out.new ≡ length out.old }
 {
     let mut player = player;
-    let mut taken = 0;
-    while taken < portion.len() {
-        let fed = player.feed(&portion[taken..], out);
+    let mut rest = portion;
+    while !rest.is_empty() {
+        let fed = player.feed(rest, out);
         player = fed.player;
-        let n = fed.written;
-        lines.write_all(&out[..n])?;
+        lines.write_all(&out[..fed.written])?;
         if fed.taken == 0 {
             return Ok(player);
         }
-        taken += fed.taken;
+        rest = &rest[fed.taken..];
     }
     Ok(player)
 }

@@ -9,11 +9,10 @@ use native.Mathlib.Omega.{arith}
 use lib.ListN.{length, take, drop, length-drop, take-append-drop, drop_of_length-le}
 use lib.Seq.{drop-drop, length-take-le, take_all}
 use borrow.Author.Tests.{lt-ltb, le-ltb}
-use Rattle.lists.specs.Tests.{or-true, split}
-use Rattle.lists.specs.Vector.{put}
+use Rattle.lists.specs.Tests.{or-true}
 use Rattle.session_log.proofs.Gather.{taken_turn}
 use Rattle.session_log.specs.Gather.{gather, gathered, turn}
-use Rattle.session_log.specs.Session.{Session, Printed, Taken, taken, is_whole}
+use Rattle.session_log.specs.Session.{Session, Printed, Taken, taken}
 use Rattle.player.specs.Player.{given_by}
 use Rattle.text.proofs.Puts.{put_long, split_at}
 use Rattle.text.specs.Line.{PutAt}
@@ -95,11 +94,6 @@ module _ (s₀ : Session) (portion out₀ : List ℕ) (s : Session) (n w : ℕ) 
       let a : taken s₀ portion (length out₀) ≡ record { session = s; taken = n; text = take w out } = f.all ∙ ap (resumed (take w out) n) i ∙ rw (add-zero n, append-nil (take w out)) in
       let b : take w out ++ drop w out₀ ≡ out = rw (← f.rest) (take-append-drop w out) in
       rw (a, l, b)
-
--- at least one byte is gathered
-pub gathered_some : (held bytes : List ℕ) → 0 < length bytes → 0 < gathered held bytes
-gathered_some held [] h = absurd (omega arith)
-gathered_some held (b ∷ bs) h = split (is_whole (put 28 held b)) (λ e. rw e (omega arith)) (λ e. rw e (omega arith))
 
 -- the rest of a portion, as the code lends it
 pub all_left : (p : List ℕ) (n : ℕ) → take (length p - n) (drop n p) ≡ drop n p

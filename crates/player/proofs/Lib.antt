@@ -1,5 +1,4 @@
-pub mod Calls
-pub mod Feeding
-pub mod Gathering
 pub mod Printing
+pub mod Feeding
+pub mod Calls
 pub mod Turns

@@ -6,20 +6,14 @@ use mathlib.Core.List.{List}
 use mathlib.Core.Path.{◌≡◌}
 use native.Mathlib.Omega.{arith}
 use lib.Dec.{eqb}
-use lib.ListN.{length, take, length-take}
-use borrow.Author.Tests.{lt-ltb, le-ltb, eqb-true, eqb-false, ne_eqb}
-use Rattle.lists.specs.Tests.{split}
+use lib.ListN.{length}
+use borrow.Author.Tests.{lt-ltb, le-ltb}
 use Rattle.session_log.specs.Session.{Session, finished}
 use Rattle.session_log.specs.Text.{cut_line}
 use Rattle.player.specs.Player.{session_of, onto, room_errno, last_text}
 use Rattle.player.specs.declared.Player.{Player}
+use Rattle.reader.proofs.Turns.{none_held}
 use Rattle.text.specs.Line.{PutAt}
-
--- none of 28 bytes is held where the count is 0
-pub none_held : (bytes : List ℕ) (n : ℕ) → length bytes ≡ 28 → eqb (length (take n bytes)) 0 ≡ eqb n 0
-none_held bytes n e = split (eqb n 0)
-    (λ z. rw (z, eqb-true n 0 z))
-    (λ z. let d = eqb-false n 0 z in rw z (ne_eqb (length (take n bytes)) 0 (λ y. omega (arith, length-take n bytes))))
 
 pub no_room : (out : List ℕ) (s : Session) → length out < 29 → (22 ≡ room_errno out) × ((0 ≡ length (last_text s out)) × (out ≡ onto (last_text s out) out))
 no_room out s h = let e = lt-ltb (length out) 29 h in (rw e, (rw e, rw e))

@@ -1,13 +1,15 @@
 -- The player as a session (`Session`), and what its calls give, with the lent buffer afterwards (document 02, W-201).
 -- Assumes nothing.
-use Rattle.std.specs.Prelude.{ℕ, cond, List, [], ◌++◌, eqb, ltb, length, take, drop}
+use Rattle.std.specs.Prelude.{ℕ, cond, Option, None, Some, List, [], ◌++◌, ltb, length, take, drop}
 use Rattle.adapter.specs.Adapter.{state_of}
 use Rattle.constants.specs.Kernel.{EINVAL}
 use Rattle.session_log.specs.Session.{Session, Taken, finished}
 use Rattle.session_log.specs.Text.{line_of, bad_line, line_max}
 use Rattle.player.specs.declared.Fed.{Fed}
 use Rattle.player.specs.declared.Player.{Player}
-use Rattle.cursor.specs.declared.Cursor.{Cursor}
+use Rattle.reader.specs.declared.Cursor.{Cursor}
+use Rattle.reader.specs.declared.Turn.{Turn}
+use Rattle.reader.specs.declared.Whole.{Whole}
 use Rattle.rules.specs.State.{State}
 
 -- the bytes of a record that is not whole yet are the first of 28; a count over 28 counts as 28
@@ -17,9 +19,13 @@ session_with s bytes c = record { state = s; held = take c.count bytes; place = 
 abbrev pub session_of : Player → Session
 session_of p = session_with (state_of p.adapter) p.bytes p.cursor
 
--- what is printed at a cursor: nothing where no call was played, the number 0
-abbrev pub shown : Cursor → ℕ → ℕ → List ℕ → List ℕ
-shown c call kind numbers = cond c.ended (bad_line c.place) (cond (eqb call 0) [] (line_of kind numbers))
+-- what is printed after a turn: nothing where no record has come
+abbrev pub shown_came : Option Whole → ℕ → List ℕ → List ℕ
+shown_came None kind numbers = []
+shown_came (Some whole) kind numbers = line_of kind numbers
+
+abbrev pub shown : Turn → ℕ → List ℕ → List ℕ
+shown t kind numbers = cond t.cursor.ended (bad_line t.cursor.place) (shown_came t.came kind numbers)
 
 -- a text at the start of a buffer
 abbrev pub onto : List ℕ → List ℕ → List ℕ

@@ -6,16 +6,14 @@ ghost use Rattle.std.specs.Prelude.{◌≤◌};
 use std::io::Read;
 use std::{env, fs, io};
 
+// A byte that is no digit counts as 0.
 fn digit(byte: u8) -> usize
     ensures { result ≤ 9 }
 {
-    if byte < b'0' {
-        return 0;
+    match byte {
+        b'0'..=b'9' => usize::from(byte - b'0'),
+        _ => 0,
     }
-    if byte <= b'9' {
-        return (byte - b'0') as usize;
-    }
-    0
 }
 
 // The number that the digits of a word make; after four or five digits the rest is left.
@@ -23,10 +21,11 @@ fn number_of(word: &[u8]) -> usize
     ensures { result ≤ 65536 }
 {
     let mut n = 0;
-    let mut i = 0;
-    while i < word.len() && n < 6553 {
-        n = n * 10 + digit(word[i]);
-        i += 1;
+    for byte in word {
+        if n >= 6553 {
+            return n;
+        }
+        n = n * 10 + digit(*byte);
     }
     n
 }
