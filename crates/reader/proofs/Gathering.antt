@@ -2,7 +2,7 @@
 -- Assumes nothing.
 use Rattle.std.proofs.Common.{◌≡◌, ℕ, suc, ◌+◌, ◌-◌, ◌<◌, ◌≤◌, min, true, false, ltb, List, [], ◌∷◌, ◌++◌, length, get_or, take, sym, refl, ap, ◌∙◌, ap₂, append-nil, arith, length-append, length-take, length-take-le, take_all, get_or-take, ltb-false, ltb-true, le-ltb, lt-ltb, le-leb}
 use Rattle.std.proofs.Math.ListN.{get_or-append}
-use Rattle.std.proofs.Math.Seq.{append_snoc, paste, take-paste}
+use Rattle.std.proofs.Math.Seq.{append_snoc}
 use Rattle.std.proofs.lemmas.Bool.{lt-leb}
 use Rattle.lists.specs.Elements.{take_taken}
 use Rattle.lists.specs.Tests.{split}
@@ -62,17 +62,17 @@ pub kind_old : (bytes portion : List ℕ) (count : ℕ) → count ≤ length byt
 kind_old bytes portion count e h =
     sym (get_or-append (take count bytes) portion 0 0 (omega (arith, length-take count bytes)) ∙ get_or-take count bytes 0 0 h)
 
--- the copy of as many bytes as the record lacks, or as there are
-pub copied : (bytes portion : List ℕ) (count kind n : ℕ) → length bytes ≡ 28 → count < 28 → kind ≡ kind_of (take count bytes ++ portion)
+-- as many bytes as the record lacks, or as there are
+copied : (bytes portion : List ℕ) (count kind n : ℕ) → length bytes ≡ 28 → count < 28 → kind ≡ kind_of (take count bytes ++ portion)
     → n ≡ length (take (suc (body_length kind - count)) portion)
-    → (gather (take count bytes) portion ≡ take (count + n) (paste bytes count portion n)) × (gathered (take count bytes) portion ≡ n)
+    → (gather (take count bytes) portion ≡ take count bytes ++ take n portion) × (gathered (take count bytes) portion ≡ n)
 copied bytes portion count kind n e l k q =
     let h : length (take count bytes) ≡ count = length-take-le count bytes (omega arith) in
     let i = gather_is (take count bytes) portion (omega arith) in
     let d : lacks (take count bytes) portion ≡ suc (body_length kind - count) = ap₂ (λ (x y : ℕ). suc (body_length x - y)) (sym k) h in
     let t : take (lacks (take count bytes) portion) portion ≡ take n portion = ap (λ (m : ℕ). take m portion) d ∙ sym (take_taken (suc (body_length kind - count)) n portion q) in
     let w : n ≤ length portion = omega (arith, length-take (suc (body_length kind - count)) portion) in
-    (i.0 ∙ ap (λ (l : List ℕ). take count bytes ++ l) t ∙ sym (take-paste bytes count portion n (omega arith) w), i.1 ∙ ap length t ∙ length-take-le n portion w)
+    (i.0 ∙ ap (λ (l : List ℕ). take count bytes ++ l) t, i.1 ∙ ap length t ∙ length-take-le n portion w)
 
 -- the code's copy, with no room for a byte, and with some
 pub filled_none : (bytes portion : List ℕ) (m : ℕ) → length bytes ≡ 28 → 1 ≤ length portion → at_most28 m ≡ 28
@@ -82,11 +82,11 @@ filled_none bytes portion m e l h =
     let g = gather_full bytes portion e l in
     rw (u, h) (g.0 ∙ sym (take_all 29 bytes (omega arith)), g.1)
 
-pub filled : (bytes portion : List ℕ) (m count kind lack n i : ℕ) (bytes' : List ℕ) → length bytes ≡ 28 → count ≡ at_most28 m → count < 28
+pub filled : (bytes portion : List ℕ) (m count kind lack n : ℕ) (bytes' : List ℕ) → length bytes ≡ 28 → count ≡ at_most28 m → count < 28
     → kind ≡ kind_of (take count bytes ++ portion) → lack ≡ suc (body_length kind - count) → n ≡ min lack (length portion)
-    → i ≡ n → bytes' ≡ paste bytes count portion i
+    → take (count + n) bytes' ≡ take count bytes ++ take n portion
     → (gather (take m bytes) portion ≡ take (at_most28 m + n) bytes') × (gathered (take m bytes) portion ≡ n)
-filled bytes portion m count kind lack n i bytes' e h l k d q f p =
+filled bytes portion m count kind lack n bytes' e h l k d q p =
     let t : take count bytes ≡ take m bytes = rw h (take_28 m bytes e) in
     let long : n ≡ length (take (suc (body_length kind - count)) portion) = q ∙ sym (length-take lack portion) ∙ ap (λ (x : ℕ). length (take x portion)) d in
-    rw (← t, ← h, p, f) (copied bytes portion count kind n e l k long)
+    rw (← t, ← h, p) (copied bytes portion count kind n e l k long)

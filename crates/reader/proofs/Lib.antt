@@ -1,4 +1,4 @@
-pub mod Cursors
+pub mod Codes
 pub mod Gathering
 pub mod Turns
 pub mod Came

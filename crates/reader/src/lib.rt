@@ -1,16 +1,75 @@
 // Reading a log in portions: the bytes of a record are gathered until it is whole. The player and the comparer stand on this.
 #![tactic(auto)]
 
-ghost use Rattle.std.specs.Prelude.{◌≡◌, suc, ◌+◌, ◌-◌, ◌<◌, ◌≤◌, false, length, take};
+ghost use Rattle.std.specs.Prelude.{◌≡◌, suc, ◌+◌, ◌-◌, ◌<◌, ◌≤◌, false, length, take, IfSome, MatchOption};
 ghost use Rattle.reading.specs.Gather.{gather, gathered};
 ghost use Rattle.reading.specs.Reading.{turn};
 ghost use Rattle.session_log.specs.Record.{is_kind, body_length};
 ghost use Rattle.reader.specs.Cursor.{at_most28, is_bad, call_number, next_cursor};
-ghost use Rattle.reader.specs.Turn.{reading_of, turn_of, call_in};
+ghost use Rattle.reader.specs.Kind.{kind_number};
+ghost use Rattle.reader.specs.Turn.{reading_of, turn_of, call_in, number_of};
+
+// The kinds of records.
+#[derive(Clone, Copy, Debug, PartialEq, Eq)]
+pub enum Kind {
+    Open,
+    Close,
+    Mode,
+    Transmit,
+    Receive,
+    BusStart,
+    BusResult,
+    Time,
+    Message,
+    Configure,
+    Unconfigure,
+}
+
+impl Kind {
+    // The kind that a byte stands for.
+    #[tactic(auto, using(crate::proofs::Codes::no_kind))]
+    pub fn of(byte: u8) -> Option<Kind>
+        ensures { MatchOption result (is_kind byte ≡ false) (λ kind. kind_number kind ≡ byte) }
+    {
+        match byte {
+            1 => Some(Kind::Open),
+            2 => Some(Kind::Close),
+            3 => Some(Kind::Mode),
+            4 => Some(Kind::Transmit),
+            5 => Some(Kind::Receive),
+            6 => Some(Kind::BusStart),
+            7 => Some(Kind::BusResult),
+            8 => Some(Kind::Time),
+            9 => Some(Kind::Message),
+            10 => Some(Kind::Configure),
+            11 => Some(Kind::Unconfigure),
+            _ => None,
+        }
+    }
+
+    // How many bytes follow the kind.
+    #[tactic(auto, unfolding(session_log::specs::Record::body_length))]
+    pub fn body_length(self) -> usize
+        ensures value { result ≡ body_length (kind_number self) }
+        ensures upper_bound { result ≤ 27 }
+    {
+        match self {
+            Kind::Open => 1,
+            Kind::Close => 1,
+            Kind::Mode => 5,
+            Kind::Transmit => 27,
+            Kind::Receive => 1,
+            Kind::BusStart => 0,
+            Kind::BusResult => 13,
+            Kind::Time => 4,
+            Kind::Message => 25,
+            Kind::Configure => 27,
+            Kind::Unconfigure => 0,
+        }
+    }
+}
 
 // Where a log is read: how many bytes of a record have come, the place of its kind, and whether an unknown kind has come.
-
-#[repr(C)]
 #[derive(Clone, Copy)]
 pub struct Cursor {
     pub count: usize,
@@ -18,39 +77,30 @@ pub struct Cursor {
     pub ended: bool,
 }
 
-// A turn of reading: the cursor after it, how many bytes of the portion it took, and, where they made a record whole, the number of its call and its length. These are 0 where none is whole.
-#[repr(C)]
+// A record that has come whole, and how many bytes it has.
+#[derive(Clone, Copy)]
+pub struct Whole {
+    pub kind: Kind,
+    pub length: usize,
+}
+
+// A turn of reading: the cursor after it, how many bytes of the portion it took, and the record that they made whole, if any.
 #[derive(Clone, Copy)]
 pub struct Turn {
     pub cursor: Cursor,
     pub taken: usize,
-    pub call: u8,
-    pub length: usize,
+    pub came: Option<Whole>,
 }
 
-fn is_kind(kind: u8) -> bool
-    ensures { result ≡ is_kind kind }
-{
-    (1 <= kind) & (kind <= 11)
-}
-
-// How many bytes follow the kind.
-#[tactic(auto, using(crate::proofs::Cursors::no_body), unfolding(session_log::specs::Record::body_length))]
-fn body_length(kind: u8) -> usize
-    ensures value { result ≡ body_length kind }
+// How many bytes follow a byte that stands for a kind; none follow an unknown one.
+#[tactic(auto, using(session_log::proofs::Gather::unknown_short))]
+fn body_length(byte: u8) -> usize
+    ensures value { result ≡ body_length byte }
     ensures upper_bound { result ≤ 27 }
 {
-    match kind {
-        1 => 1,
-        2 => 1,
-        3 => 5,
-        4 => 27,
-        5 => 1,
-        7 => 13,
-        8 => 4,
-        9 => 25,
-        10 => 27,
-        _ => 0,
+    match Kind::of(byte) {
+        Some(kind) => kind.body_length(),
+        None => 0,
     }
 }
 
@@ -70,65 +120,67 @@ impl Cursor {
         ensures value { result ≡ at_most28 self.count }
         ensures upper_bound { result ≤ 28 }
     {
-        lists::at_most(self.count, 28)
+        self.count.min(28)
     }
 
     // Only the first byte of a record is read as a kind: one of which bytes are held is not bad.
-    fn is_bad(self, kind: u8) -> bool
-        ensures { result ≡ is_bad self kind }
+    fn is_bad(self, byte: u8) -> bool
+        ensures { result ≡ is_bad self byte }
     {
-        (self.count == 0) & !is_kind(kind)
+        self.count == 0 && Kind::of(byte).is_none()
     }
 
-    // The number of the call to play where so many bytes of a record have come; 0 for none.
+    // The record that is whole where so many bytes of it have come.
     #[tactic(auto, unfolding(crate::specs::Cursor::call_number))]
-    fn call(self, kind: u8, count: usize) -> u8
-        ensures value { result ≡ call_number self kind count }
-        ensures upper_bound { result ≤ 11 }
+    fn came(self, byte: u8, count: usize) -> Option<Whole>
+        ensures number { number_of result ≡ call_number self byte count }
+        ensures length { IfSome result (λ whole. whole.length ≡ at_most28 count) }
     {
-        if self.is_bad(kind) | (count <= body_length(kind)) {
-            return 0;
+        if self.is_bad(byte) || count <= body_length(byte) {
+            return None;
         }
         // No log leads to a record of an unknown kind, of which bytes are held: the kind ends the log as it comes. `call_of` takes
         // what is no other kind for the last one, and so does this.
-        if is_kind(kind) { kind } else { 11 }
+        Some(Whole {
+            kind: Kind::of(byte).unwrap_or(Kind::Unconfigure),
+            length: count.min(28),
+        })
     }
 
     #[tactic(auto, unfolding(crate::specs::Cursor::next_cursor))]
-    fn next(self, kind: u8, count: usize) -> Cursor
-        ensures { result ≡ next_cursor self kind count }
+    fn next(self, byte: u8, count: usize) -> Cursor
+        ensures { result ≡ next_cursor self byte count }
     {
-        if self.is_bad(kind) {
+        let place = self.place;
+        if self.is_bad(byte) {
             return Cursor {
                 count: 0,
-                place: self.place,
+                place,
                 ended: true,
             };
         }
-        if body_length(kind) < count {
-            let place = std::num::wrapping_add_u64(self.place, lists::at_most(count, 28) as u64);
+        if body_length(byte) < count {
             return Cursor {
                 count: 0,
-                place: place,
+                place: place.wrapping_add(count.min(28) as u64),
                 ended: false,
             };
         }
         Cursor {
-            count: count,
-            place: self.place,
+            count,
+            place,
             ended: false,
         }
     }
 }
 
-// How many bytes a record of a kind lacks where so many have come; one at least, since a record is looked at after a byte of it.
-fn lacking(kind: u8, count: usize) -> usize
+// How many bytes a record lacks that begins with a byte and of which so many have come; one at least, since a record is looked at after a byte of it.
+fn lacking(byte: u8, count: usize) -> usize
     requires { count < 28 }
-    ensures value { result ≡ suc (body_length kind - count) }
+    ensures value { result ≡ suc (body_length byte - count) }
     ensures result_bound { count + result ≤ 28 }
 {
-    let body = body_length(kind);
-    if count < body { body - count + 1 } else { 1 }
+    body_length(byte).saturating_sub(count) + 1
 }
 
 // Appends bytes to a record of which some have come, until it is whole or there are no more; says how many.
@@ -147,49 +199,31 @@ fn gather(bytes: &mut [u8; 28], cursor: Cursor, portion: &[u8]) -> usize
         return 1;
     }
     let kind = if count == 0 { portion[0] } else { bytes[0] };
-    let n = lists::at_most(lacking(kind, count), portion.len());
-    let mut i = 0;
-    while i < n {
-        bytes[count + i] = portion[i];
-        i += 1;
-    }
+    let n = lacking(kind, count).min(portion.len());
+    bytes[count..count + n].copy_from_slice(&portion[..n]);
     n
 }
-
-// An array by value tells its length to a proof; a reference to one does not. There is nothing to do.
-fn known_length(bytes: [u8; 28])
-    ensures { length bytes ≡ 28 }
-{}
 
 // Takes the bytes of a portion up to the end of a record, or an unknown kind. The record stands in the first bytes of the 28.
 pub fn read(bytes: &mut [u8; 28], cursor: Cursor, portion: &[u8]) -> Turn
     ensures bytes_after { turn_of result bytes.new ≡ turn (reading_of bytes.old cursor) portion.now }
-    ensures call_value { result.call ≡ call_in (turn (reading_of bytes.old cursor) portion.now).read.came }
+    ensures call_value { number_of result.came ≡ call_in (turn (reading_of bytes.old cursor) portion.now).read.came }
     ensures bytes_len { length bytes.new ≡ 28 }
-    ensures call_bound { result.call ≤ 11 }
-    ensures length_bound { result.length ≤ 28 }
+    ensures length_bound { IfSome result.came (λ whole. whole.length ≤ 28) }
 {
-    known_length(*bytes);
-    if cursor.ended | (portion.len() == 0) {
+    if cursor.ended || portion.is_empty() {
         return Turn {
-            cursor: cursor,
+            cursor,
             taken: 0,
-            call: 0,
-            length: 0,
+            came: None,
         };
     }
     let n = gather(bytes, cursor, portion);
     let kind = bytes[0];
     let count = cursor.held() + n;
-    let call = cursor.call(kind, count);
     Turn {
         cursor: cursor.next(kind, count),
         taken: n,
-        call: call,
-        length: if call == 0 {
-            0
-        } else {
-            lists::at_most(count, 28)
-        },
+        came: cursor.came(kind, count),
     }
 }
