@@ -1,6 +1,6 @@
 -- Two records agree where all bytes that are not past a length are the same; how the code finds that out.
 -- Assumes nothing.
-use Rattle.std.proofs.Common.{◌≡◌, ℕ, ◌+◌, ◌-◌, ◌<◌, ◌≤◌, Bool, true, false, cond, ◌&&◌, eqb, ltb, leb, ◌≢◌, List, length, take, drop, Option, None, Some, sym, ap, ap₂, ◌∙◌, arith, ext_get_or, ltb-false, ltb-true, le-ltb, ne_eqb, leb-true, length-take, length-drop, take_all}
+use Rattle.std.proofs.Common.{◌≡◌, ℕ, ◌+◌, ◌-◌, ◌<◌, Bool, true, false, cond, ◌&&◌, eqb, ltb, leb, ◌≢◌, List, length, take, drop, None, Some, sym, ap, ap₂, ◌∙◌, arith, ext_get_or, ltb-false, ltb-true, le-ltb, ne_eqb, length-take, length-drop, take_all}
 use Rattle.std.proofs.lemmas.Bool.Decides.{Decides-eqb}
 use Rattle.std.proofs.lemmas.List.{get_or-take, get_or-drop}
 use Rattle.std.proofs.lemmas.Slice.Eq.{slice_eq-Decides}

@@ -1,6 +1,6 @@
 -- The loop that takes a portion of each log: what it has taken so far, how that begins, goes on and ends; and the answer.
 -- Assumes nothing.
-use Rattle.std.proofs.Common.{◌≡◌, ℕ, ◌+◌, ◌-◌, ◌<◌, ◌≤◌, Bool, true, false, cond, not, ◌&&◌, ◌||◌, eqb, ltb, List, [], length, take, drop, Option, None, Some, refl, sym, ap, ◌∙◌, ap₂, add-zero, add_assoc, zero-add, arith, length-drop, drop-drop, ltb-false, ltb-true, eq-eqb, ne_eqb}
+use Rattle.std.proofs.Common.{◌≡◌, ℕ, ◌+◌, ◌-◌, ◌<◌, ◌≤◌, Bool, true, false, cond, ◌&&◌, ◌||◌, eqb, List, [], length, drop, Option, None, Some, refl, sym, ap, ◌∙◌, ap₂, add-zero, add_assoc, zero-add, arith, length-drop, drop-drop, eq-eqb, ne_eqb}
 use Rattle.std.specs.Option.{is_some}
 use mathlib.Core.Logic.{◌⊎◌, inl, inr}
 use Rattle.comparer.specs.Comparer.{log_in, progress_in, found, comparing_of, fed_in, verdict_in}
@@ -14,9 +14,9 @@ use Rattle.comparison.proofs.Comparing.{can_take_lem, fed_left, fed_right, fed_n
 use Rattle.comparison.specs.Compare.{Verdict, sides}
 use Rattle.comparison.specs.Comparing as comparing
 use Rattle.comparison.specs.Comparing.{alone, is_waiting, is_wanted, FedSide, fed_side, Comparing, with_side, settled, turned, turn_length, Fed, further, can_take, fed, verdict_by, answer_of}
-use Rattle.lists.specs.Tests.{split}
 use Rattle.reading.specs.Reading.{Ending, end_of}
 use Rattle.reader.specs.Turn.{reading_of}
+use Rattle.reader.specs.declared.Whole.{Whole}
 
 -- of portions a and b, offered to a comparer c₀, l and r bytes are taken, and the comparer is c
 pub record Feeding (c₀ : Comparing) (a b : List ℕ) (c : Comparing) (l r : ℕ) : Type 0 where
@@ -127,7 +127,7 @@ verdict_lem : (p : Progress) → verdict_in (found p) ≡ verdict_by (progress_i
 verdict_lem (Going number place) = refl
 verdict_lem (Decided d) = refl
 
-short_by : (s : Log) (w : Option ℕ) → s.waits ≡ w → length (log_in s).waiting ≤ 1
+short_by : (s : Log) (w : Option Whole) → s.waits ≡ w → length (log_in s).waiting ≤ 1
 short_by s None e = rw e (omega arith)
 short_by s (Some n) e = rw e (omega arith)
 

@@ -1,8 +1,8 @@
 -- What the comparer's code does with one log, with the progress and with both logs, over plain values.
 -- Assumes nothing.
-use Rattle.std.proofs.Common.{◌≡◌, ℕ, ◌+◌, ◌<◌, min, Bool, true, false, cond, not, ◌||◌, eqb, ltb, ◌≢◌, List, [], ◌∷◌, length, take, Option, None, Some, refl, sym, ap, ◌∙◌, ap₂, arith, length-take, take_all, ltb-false, ltb-true, ne_eqb, leb-true, true≢false}
+use Rattle.std.proofs.Common.{◌≡◌, ℕ, ◌+◌, ◌<◌, min, Bool, true, false, cond, ◌||◌, ltb, ◌≢◌, List, [], ◌∷◌, length, take, Option, None, Some, refl, sym, ap, ◌∙◌, ap₂, arith, length-take, take_all, ltb-false, ltb-true, ne_eqb, leb-true, true≢false}
 use Rattle.std.specs.Option.{is_some}
-use Rattle.comparer.specs.Comparer.{waiting_in, log_in, progress_in, comparing_of}
+use Rattle.comparer.specs.Comparer.{log_in, progress_in, comparing_of}
 use Rattle.comparer.specs.declared.Comparer.{Comparer}
 use Rattle.comparer.specs.declared.Log.{Log}
 use Rattle.comparer.specs.declared.Progress.{Progress}
@@ -15,9 +15,10 @@ use Rattle.session_log.proofs.Record.{kind_held}
 use Rattle.reading.specs.Reading as reading
 use Rattle.reading.specs.Reading.{end_of, turn}
 use Rattle.session_log.specs.Record.{body_length, kind_of}
-use Rattle.reader.specs.Turn.{reading_of, turn_of}
+use Rattle.reader.specs.Turn.{reading_of, came_of, turn_of}
 use Rattle.reader.specs.declared.Cursor.{Cursor}
 use Rattle.reader.specs.declared.Turn.{Turn}
+use Rattle.reader.specs.declared.Whole.{Whole}
 
 -- how a log ends
 pub end_bad : (bytes : List ℕ) (c : Cursor) → c.ended ≡ true → reading.bad_at c.place ≡ end_of (reading_of bytes c)
@@ -33,14 +34,14 @@ unfolding end_of
 end_cut bytes c l e d = rw (e, ne_eqb (length (take c.count bytes)) 0 (λ z. d (omega (arith, length-take c.count bytes))))
 
 -- a record that waits, or none
-by_waits : (s : Log) (w : Option ℕ) → s.waits ≡ w → is_waiting (log_in s) ≡ is_some s.waits
+by_waits : (s : Log) (w : Option Whole) → s.waits ≡ w → is_waiting (log_in s) ≡ is_some s.waits
 by_waits s None e = rw e
 by_waits s (Some n) e = rw e
 
 pub waiting_is : (s : Log) → is_waiting (log_in s) ≡ is_some s.waits
 waiting_is s = by_waits s s.waits refl
 
-no_record : (x : Option ℕ) → is_some x ≡ false → x ≡ None
+no_record : (x : Option Whole) → is_some x ≡ false → x ≡ None
 no_record None e = refl
 no_record (Some n) e = absurd (true≢false e)
 
@@ -62,33 +63,30 @@ module _ (s : Log) (portion : List ℕ) where
     can : (is_some s.waits || s.over) ≡ false
     can = rw (w, o)
 
-    pub read_part : t.call ≡ 0 → record { side = log_in (record { cursor = t.cursor; waits = s.waits; over = s.over; bytes = bytes; counts = s.counts }); taken = t.taken } ≡ fed_side (log_in s) portion
-    read_part z = none ∙ ap made h ∙ sym (took can)
-      where
-        none : record { side = log_in (record { cursor = t.cursor; waits = s.waits; over = s.over; bytes = bytes; counts = s.counts }); taken = t.taken } ≡ made (turn_of t bytes)
-        none = rw (no_record s.waits w, o, z)
+    -- the log after the turn
+    abbrev after : Option Whole → List ℕ → FedSide
+    after came counts = record { side = log_in (record { cursor = t.cursor; waits = came; over = s.over; bytes = bytes; counts = counts }); taken = t.taken }
 
     -- a record that came is whole, and so it is not empty
-    came_is : t.call ≢ 0 → (turn (reading_of s.bytes s.cursor) portion).read.came ≡ take t.length bytes ∷ []
-    came_is d = sym (ap (λ (x : reading.Turn). x.read.came) h) ∙ one
-      where
-        one : (turn_of t bytes).read.came ≡ take t.length bytes ∷ []
-        one = rw (ne_eqb t.call 0 d)
+    came_some : (g : Whole) → t.came ≡ Some g → 0 < g.length
+    came_some g d =
+        let b = take g.length bytes in
+        let c : (turn (reading_of s.bytes s.cursor) portion).read.came ≡ b ∷ [] = sym (ap (λ (x : reading.Turn). x.read.came) h) ∙ ap (λ (x : Option Whole). came_of x bytes) d in
+        let w = leb-true (1 + body_length (kind_of b)) (length b) (came_whole (reading_of s.bytes s.cursor) portion b [] c) in
+        omega (arith, length-take g.length bytes)
 
-    came_some : t.call ≢ 0 → 0 < t.length
-    came_some d =
-        let g = take t.length bytes in
-        let w = leb-true (1 + body_length (kind_of g)) (length g) (came_whole (reading_of s.bytes s.cursor) portion g [] (came_is d)) in
-        omega (arith, length-take t.length bytes)
+    -- the counts, as what came has them
+    by_came : (came : Option Whole) → t.came ≡ came → (counts : List ℕ) → counts ≡ cond (is_some came) (counted kinds s.counts (kind_of bytes)) s.counts
+        → counts ≡ tallied s.counts (came_of came bytes)
+    by_came None d counts q = q
+    by_came (Some g) d counts q = q ∙ ap (counted kinds s.counts) (sym (kind_held bytes g.length (came_some g d)))
 
-    pub read_whole : (counts : List ℕ) → t.call ≢ 0 → counts ≡ counted kinds s.counts (kind_of bytes)
-        → record { side = log_in (record { cursor = t.cursor; waits = Some t.length; over = s.over; bytes = bytes; counts = counts }); taken = t.taken } ≡ fed_side (log_in s) portion
-    read_whole counts d q = whole ∙ ap made h ∙ sym (took can)
+    pub read_turn : (counts : List ℕ) → counts ≡ cond (is_some t.came) (counted kinds s.counts (kind_of bytes)) s.counts
+        → record { side = log_in (record { cursor = t.cursor; waits = t.came; over = s.over; bytes = bytes; counts = counts }); taken = t.taken } ≡ fed_side (log_in s) portion
+    read_turn counts q = rw o (ap with_counts (by_came t.came refl counts q)) ∙ ap made h ∙ sym (took can)
       where
-        whole : record { side = log_in (record { cursor = t.cursor; waits = Some t.length; over = s.over; bytes = bytes; counts = counts }); taken = t.taken } ≡ made (turn_of t bytes)
-        whole =
-            let n = came_some d in
-            rw (ne_eqb t.call 0 d, o, q, kind_held bytes t.length n)
+        with_counts : List ℕ → FedSide
+        with_counts cs = record { side = record { reading = reading_of bytes t.cursor; waiting = came_of t.came bytes; counts = cs; over = false }; taken = t.taken }
 
 -- both logs, where one waits, or both
 take_28 : (n : ℕ) (l : List ℕ) → length l ≡ 28 → take (min n 28) l ≡ take n l
@@ -104,20 +102,20 @@ module _ (c : Comparer) where
   abbrev logs : comparing.Comparing
   logs = comparing_of c
 
-  settled_at : (x y : Option ℕ) → c.left.waits ≡ x → c.right.waits ≡ y → settled_by logs (waiting_in x c.left.bytes) (waiting_in y c.right.bytes) ≡ settled logs
+  settled_at : (x y : Option Whole) → c.left.waits ≡ x → c.right.waits ≡ y → settled_by logs (came_of x c.left.bytes) (came_of y c.right.bytes) ≡ settled logs
   unfolding settled
-  settled_at x y p q = sym (ap₂ (λ (u v : Option ℕ). settled_by logs (waiting_in u c.left.bytes) (waiting_in v c.right.bytes)) p q)
+  settled_at x y p q = sym (ap₂ (λ (u v : Option Whole). settled_by logs (came_of u c.left.bytes) (came_of v c.right.bytes)) p q)
 
-  pub settle_met : (n m : ℕ) (p : Progress) → length c.left.bytes ≡ 28 → length c.right.bytes ≡ 28 → c.left.waits ≡ Some n → c.right.waits ≡ Some m
-      → progress_in p ≡ met (progress_in c.progress) (take (min n 28) c.left.bytes) (take (min m 28) c.right.bytes)
+  pub settle_met : (n m : Whole) (p : Progress) → length c.left.bytes ≡ 28 → length c.right.bytes ≡ 28 → c.left.waits ≡ Some n → c.right.waits ≡ Some m
+      → progress_in p ≡ met (progress_in c.progress) (take (min n.length 28) c.left.bytes) (take (min m.length 28) c.right.bytes)
       → comparing_of (record { left = freed c.left; right = freed c.right; progress = p }) ≡ settled logs
   settle_met n m p el er x y h =
       ap (λ (q : comparing.Progress). record { left = log_in (freed c.left); right = log_in (freed c.right); progress = q })
-      (h ∙ ap₂ (met (progress_in c.progress)) (take_28 n c.left.bytes el) (take_28 m c.right.bytes er))
+      (h ∙ ap₂ (met (progress_in c.progress)) (take_28 n.length c.left.bytes el) (take_28 m.length c.right.bytes er))
       ∙ settled_at (Some n) (Some m) x y
 
   -- the record of one log waits, and the other is done or not
-  module _ (n : ℕ) where
+  module _ (n : Whole) where
     abbrev left_alone : comparing.Progress → comparing.Comparing
     left_alone q = record { left = log_in (freed c.left); right = log_in c.right; progress = q }
 

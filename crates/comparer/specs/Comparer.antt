@@ -1,6 +1,6 @@
 -- The comparer as what is compared (`Comparing`), and its answer as the comparison of two logs (document 02, W-209).
 -- Assumes nothing.
-use Rattle.std.specs.Prelude.{◌≡◌, ℕ, ◌<◌, ◌≤◌, Bool, true, false, ◌&&◌, List, [], ◌∷◌, length, take, nat_le, nat_lt, Option, None, Some}
+use Rattle.std.specs.Prelude.{◌≡◌, ℕ, ◌<◌, ◌≤◌, Bool, true, false, ◌&&◌, List, length, nat_le, nat_lt, Option, None, Some}
 use Rattle.std.specs.declared.ops.Range.{Range}
 use Rattle.comparison.specs.Compare as compare
 use Rattle.comparison.specs.Compare.{in_kind, in_body, in_end, Verdict, equal, differs, sides, is_past}
@@ -23,21 +23,16 @@ use Rattle.comparer.specs.declared.What.{What}
 use Rattle.comparer.specs.declared.What.TheVariants.{Kind, Body, End as InEnd}
 use Rattle.reading.specs.Reading as reading
 use Rattle.reading.specs.Reading.{at_end, bad_at, cut_at}
-use Rattle.reader.specs.Turn.{reading_of}
+use Rattle.reader.specs.Turn.{reading_of, came_of}
 
 -- whether a log is the right one
 abbrev pub is_right : Side → Bool
 is_right Left = false
 is_right Right = true
 
--- a record that waits is the first bytes of 28
-abbrev pub waiting_in : Option ℕ → List ℕ → List (List ℕ)
-waiting_in None bytes = []
-waiting_in (Some n) bytes = take n bytes ∷ []
-
 -- a log with its bytes and its counts
 abbrev pub log_in : Log → comparing.Side
-log_in l = record { reading = reading_of l.bytes l.cursor; waiting = waiting_in l.waits l.bytes; counts = l.counts; over = l.over }
+log_in l = record { reading = reading_of l.bytes l.cursor; waiting = came_of l.waits l.bytes; counts = l.counts; over = l.over }
 
 abbrev pub what_in : What → compare.What
 what_in Kind = in_kind

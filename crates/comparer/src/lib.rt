@@ -9,7 +9,7 @@ ghost use Rattle.reading.specs.Reading.{end_of};
 ghost use Rattle.session_log.specs.Record.{kind_of};
 ghost use Rattle.reader.specs.Turn.{reading_of};
 
-use reader::Cursor;
+use reader::{Cursor, Whole};
 use std::ops::Range;
 
 // One of the two logs.
@@ -66,12 +66,12 @@ pub struct Taken {
     pub right: usize,
 }
 
-// A log: where it is read, the length of a whole record that waits for one of the other log, whether nothing more comes, the bytes of a record, and how many
-// records of each kind have come.
+// A log: where it is read, the whole record that waits for one of the other log, whether nothing more comes, the bytes of a record, and how many records of
+// each kind have come.
 #[derive(Clone, Copy)]
 struct Log {
     cursor: Cursor,
-    waits: Option<usize>,
+    waits: Option<Whole>,
     over: bool,
     bytes: [u8; 28],
     counts: [u64; 11],
@@ -201,11 +201,10 @@ impl Log {
         }
         let turn = reader::read(&mut self.bytes, self.cursor, portion);
         self.cursor = turn.cursor;
-        if turn.call == 0 {
-            return turn.taken;
+        self.waits = turn.came;
+        if turn.came.is_some() {
+            self.counts = counted(self.counts, self.bytes[0]);
         }
-        self.waits = Some(turn.length);
-        self.counts = counted(self.counts, self.bytes[0]);
         turn.taken
     }
 
@@ -247,7 +246,10 @@ impl Progress {
         if !agree(left, right) {
             return decided(What::Body, number, place);
         }
-        Progress::Going(number.wrapping_add(1), place.wrapping_add(left.len() as u64))
+        Progress::Going(
+            number.wrapping_add(1),
+            place.wrapping_add(left.len() as u64),
+        )
     }
 
     // A record where the other log has none.
@@ -308,9 +310,9 @@ impl Comparer {
         ensures { comparing_of self.new ≡ settled (comparing_of self.old) }
     {
         match (self.left.waits, self.right.waits) {
-            (Some(n), Some(m)) => {
-                let left = &self.left.bytes[..n.min(28)];
-                let right = &self.right.bytes[..m.min(28)];
+            (Some(first), Some(second)) => {
+                let left = &self.left.bytes[..first.length.min(28)];
+                let right = &self.right.bytes[..second.length.min(28)];
                 self.progress = self.progress.met(left, right);
                 self.left.waits = None;
                 self.right.waits = None;

@@ -6,7 +6,7 @@ pub returns-in-Some-Some : goal.returns-in-Some-Some
 returns-in-Some-Some c =
     let s = c.args.self.now in
     let i = c.in-Some-Some in
-    settle_met s i.n i.m c.met-self.result (search rules) (search rules) i.is-0 i.is-1 (rw (c.min.ensures, c.min-in-Some-Some.ensures) at c.met-self.ensures)
+    settle_met s i.first i.second c.met-self.result (search rules) (search rules) i.is-0 i.is-1 (rw (c.min.ensures, c.min-in-Some-Some.ensures) at c.met-self.ensures)
 
 pub returns-then-is_done : goal.returns-then-is_done
 returns-then-is_done c =

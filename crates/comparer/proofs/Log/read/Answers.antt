@@ -1,7 +1,7 @@
 use Rattle.std.proofs.Common.{◌≡◌, true, ◌||◌, sym, ◌∙◌}
 use Rattle.std.specs.Option.{is_some}
 use Rattle.lists.specs.Tests.{or-true}
-use Rattle.comparer.proofs.Sides.{read_stays, read_part, read_whole}
+use Rattle.comparer.proofs.Sides.{read_stays, read_turn}
 use Rattle.comparer.proofs.Log.read.Goals as goal
 use Rattle.comparer.proofs.Log.read.Goals.{then-is_some-via-then-is_some, then-is_some-via-else-is_some+then-self}
 
@@ -15,13 +15,14 @@ returns-then-is_some c =
     ] in
     read_stays s c.args.portion.now t
 
-pub returns-then-turn-eq0 : goal.returns-then-turn-eq0
-returns-then-turn-eq0 c =
+pub returns-then-is_some-2 : goal.returns-then-is_some-2
+returns-then-is_some-2 c =
     let t = c.read-turn in
-    read_part c.args.self.now c.args.portion.now (sym c.is_some.ensures ∙ c.if-is_some.false) c.if-self.false t.result t.new.bytes t.ensures.bytes_after c.if-turn-eq0.true
+    read_turn c.args.self.now c.args.portion.now (sym c.is_some.ensures ∙ c.if-is_some.false) c.if-self.false t.result t.new.bytes t.ensures.bytes_after
+    c.counted-self.result (rw (sym c.is_some-2.ensures ∙ c.if-is_some-2.true) c.counted-self.ensures)
 
-pub returns : goal.returns
-returns c =
+pub returns-else-is_some-2 : goal.returns-else-is_some-2
+returns-else-is_some-2 c =
     let t = c.read-turn in
-    read_whole c.args.self.now c.args.portion.now (sym c.is_some.ensures ∙ c.if-is_some.false) c.if-self.false t.result t.new.bytes t.ensures.bytes_after
-    c.counted-self.result c.if-turn-eq0.false c.counted-self.ensures
+    read_turn c.args.self.now c.args.portion.now (sym c.is_some.ensures ∙ c.if-is_some.false) c.if-self.false t.result t.new.bytes t.ensures.bytes_after
+    c.args.self.now.counts (rw (sym c.is_some-2.ensures ∙ c.if-is_some-2.false))
