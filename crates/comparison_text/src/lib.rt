@@ -51,7 +51,6 @@ fn named(out: &mut [u8], at: usize, side: &[u8]) -> usize
 }
 
 // "A bad or cut log is named as such with its offset".
-#[tactic(auto, using(crate::proofs::Lines::called))]
 fn end_line(out: &mut [u8], at: usize, side: &[u8], ending: Ending) -> usize
     requires { at + (length side.now + 30) ≤ length out.old }
     ensures { PutAt out.old at (end_line side.now (end_at ending)) result out.new }
