@@ -41,7 +41,10 @@ pub fn compare<L: Read, R: Read>(
         if right_wanted && second.is_empty() {
             comparer.over(Side::Right);
         }
-        let taken = comparer.feed(&left[first.start..first.end], &right[second.start..second.end]);
+        let taken = comparer.feed(
+            &left[first.start..first.end],
+            &right[second.start..second.end],
+        );
         first.start += taken.left;
         second.start += taken.right;
     }
