@@ -371,7 +371,7 @@ impl Comparer {
         ensures { comparison_of result ≡ answer_of (comparing_of self) }
     {
         self.settle();
-        let progress = if self.left.waits.is_some() || self.right.waits.is_some() {
+        let progress = if self.left.waits.is_some() | self.right.waits.is_some() {
             self.progress.alone()
         } else {
             self.progress
