@@ -1,18 +1,22 @@
 -- The loop that takes a portion of each log: what it has taken so far, how that begins, goes on and ends; and the answer.
 -- Assumes nothing.
-use Rattle.std.proofs.Common.{◌≡◌, ℕ, ◌+◌, ◌-◌, ◌<◌, ◌≤◌, Bool, true, false, cond, not, ◌&&◌, ◌||◌, eqb, ltb, List, [], length, take, drop, sym, ap, ◌∙◌, ap₂, add-zero, add_assoc, zero-add, arith, length-drop, take_all, drop-drop, ltb-false, ltb-true, eq-eqb, ne_eqb}
-use Rattle.comparer.specs.Comparer.{side_in, took_in, what_in, progress_in, both_in}
-use Rattle.comparer.specs.declared.Both.{Both}
+use Rattle.std.proofs.Common.{◌≡◌, ℕ, ◌+◌, ◌-◌, ◌<◌, ◌≤◌, Bool, true, false, cond, ◌&&◌, ◌||◌, eqb, List, [], length, drop, Option, None, Some, refl, sym, ap, ◌∙◌, ap₂, add-zero, add_assoc, zero-add, arith, length-drop, drop-drop, eq-eqb, ne_eqb}
+use Rattle.std.specs.Option.{is_some}
+use mathlib.Core.Logic.{◌⊎◌, inl, inr}
+use Rattle.comparer.specs.Comparer.{log_in, progress_in, found, comparing_of, fed_in, verdict_in}
+use Rattle.comparer.specs.declared.Comparer.{Comparer}
+use Rattle.comparer.specs.declared.Difference.{Difference}
+use Rattle.comparer.specs.declared.Log.{Log}
 use Rattle.comparer.specs.declared.Progress.{Progress}
-use Rattle.comparer.specs.declared.Side.{Side}
-use Rattle.comparer.specs.declared.Took.{Took}
+use Rattle.comparer.specs.declared.Progress.TheVariants.{Going, Decided}
+use Rattle.comparer.proofs.Sides.{waiting_is}
 use Rattle.comparison.proofs.Comparing.{can_take_lem, fed_left, fed_right, fed_none, settled_one, last_verdict, settled_answer}
-use Rattle.comparison.specs.Compare.{Verdict, equal, differs_at, sides}
+use Rattle.comparison.specs.Compare.{Verdict, sides}
 use Rattle.comparison.specs.Comparing as comparing
 use Rattle.comparison.specs.Comparing.{alone, is_waiting, is_wanted, FedSide, fed_side, Comparing, with_side, settled, turned, turn_length, Fed, further, can_take, fed, verdict_by, answer_of}
-use Rattle.lists.specs.Tests.{split}
 use Rattle.reading.specs.Reading.{Ending, end_of}
 use Rattle.reader.specs.Turn.{reading_of}
+use Rattle.reader.specs.declared.Whole.{Whole}
 
 -- of portions a and b, offered to a comparer c₀, l and r bytes are taken, and the comparer is c
 pub record Feeding (c₀ : Comparing) (a b : List ℕ) (c : Comparing) (l r : ℕ) : Type 0 where
@@ -23,15 +27,17 @@ pub record Feeding (c₀ : Comparing) (a b : List ℕ) (c : Comparing) (l r : �
 abbrev with_taken : Fed → ℕ → ℕ → Fed
 with_taken f n m = record { comparing = f.comparing; left = n; right = m }
 
--- the rest of a portion, as the code lends it
-pub rest : (a : List ℕ) (n : ℕ) → take (length a - n) (drop n a) ≡ drop n a
-rest a n = take_all (length a - n) (drop n a) (omega (arith, length-drop n a))
+-- bytes are left of a portion, or none
+some_left : (a : List ℕ) (l : ℕ) → l < length a → eqb (length (drop l a)) 0 ≡ false
+some_left a l t = ne_eqb (length (drop l a)) 0 (λ z. omega (arith, length-drop l a))
 
--- the test of the code
-test_is : (s : comparing.Side) (w : Bool) (a : List ℕ) (l : ℕ) → w ≡ is_wanted s → (w && ltb l (length a)) ≡ can_take s (drop l a)
-test_is s w a l e = ap₂ ◌&&◌ e (split (ltb l (length a))
-    (λ t. rw (t, ne_eqb (length (drop l a)) 0 (λ z. omega (arith, ltb-true l (length a) t, length-drop l a))))
-    (λ t. rw (t, eq-eqb (length (drop l a)) 0 (omega (arith, ltb-false l (length a) t, length-drop l a)))))
+none_left : (a : List ℕ) (l : ℕ) → length a ≤ l → eqb (length (drop l a)) 0 ≡ true
+none_left a l t = eq-eqb (length (drop l a)) 0 (omega (arith, length-drop l a))
+
+-- a log that wants no bytes, or has none
+pub cannot : (s : comparing.Side) (a : List ℕ) (l : ℕ) {w : Bool} → w ≡ is_wanted s → ((w ≡ true) × (length a ≤ l)) ⊎ (w ≡ false) → can_take s (drop l a) ≡ false
+cannot s a l e (inl (t, h)) = rw (sym e ∙ t, none_left a l h)
+cannot s a l e (inr f) = rw (sym e ∙ f)
 
 -- one turn after the other
 further_left : (l r n : ℕ) (f : Fed) → further l r (further n 0 f) ≡ further (l + n) r f
@@ -40,108 +46,108 @@ further_left l r n f = ap₂ (with_taken f) (sym (add_assoc l n f.left)) (ap (λ
 further_right : (l r n : ℕ) (f : Fed) → further l r (further 0 n f) ≡ further l (r + n) f
 further_right l r n f = ap₂ (with_taken f) (ap (λ (x : ℕ). l + x) (zero-add f.left)) (sym (add_assoc r n f.right))
 
-module _ (c₀ : Comparing) (a b : List ℕ) (o : Both) (lb rb lc rc : List ℕ) (l r : ℕ) (f : Feeding c₀ a b (both_in o lb rb lc rc) l r) where
+-- how it begins
+pub begins : (c : Comparing) (a b : List ℕ) → Feeding c a b c 0 0
+begins c a b = record {
+  left_within = omega arith;
+  right_within = omega arith;
+  all = ap₂ (with_taken (fed c a b)) (sym (zero-add (fed c a b).left)) (sym (zero-add (fed c a b).right));
+}
+
+module _ (c₀ : Comparing) (a b : List ℕ) (o : Comparer) (l r : ℕ) (f : Feeding c₀ a b (comparing_of o) l r) where
   abbrev now : Comparing
-  now = both_in o lb rb lc rc
+  now = comparing_of o
 
   -- a turn of the left log
-  module _ (w : Bool) (e : w ≡ is_wanted now.left) (t : (w && ltb l (length a)) ≡ true)
-      (k : Took) (lb' lc' : List ℕ) (h : took_in k lb' lc' ≡ fed_side now.left (drop l a)) where
+  module _ (e : is_wanted now.left ≡ true) (t : l < length a) (k : Log) (n : ℕ) (h : record { side = log_in k; taken = n } ≡ fed_side now.left (drop l a)) where
     left_can : can_take now.left (drop l a) ≡ true
-    left_can = sym (test_is now.left w a l e) ∙ t
+    left_can = rw (e, some_left a l t)
 
-    pub left_taken : (0 < k.taken) × (k.taken ≤ length a - l)
+    pub left_taken : (0 < n) × (n ≤ length a - l)
     left_taken =
         let c = can_take_lem now.left (drop l a) left_can in
-        let q : k.taken ≡ (fed_side now.left (drop l a)).taken = ap (λ (x : FedSide). x.taken) h in
+        let q : n ≡ (fed_side now.left (drop l a)).taken = ap (λ (x : FedSide). x.taken) h in
         (omega (arith, c.0), omega (arith, c.1, length-drop l a))
 
-    pub left_turn : (o' : Both) → both_in o' lb' rb lc' rc ≡ settled (both_in (record { left = k.side; right = o.right; progress = o.progress }) lb' rb lc' rc)
-        → Feeding c₀ a b (both_in o' lb' rb lc' rc) (l + k.taken) r
+    pub left_turn : (o' : Comparer) → comparing_of o' ≡ settled (comparing_of (record { left = k; right = o.right; progress = o.progress }))
+        → Feeding c₀ a b (comparing_of o') (l + n) r
     unfolding turned
     left_turn o' q =
         let g = left_taken in
-        let n : turn_length now false (drop l a) ≡ k.taken = ap (λ (x : FedSide). x.taken) (sym h) in
-        let d : turned now false (drop l a) ≡ both_in o' lb' rb lc' rc = ap (λ (x : FedSide). settled (with_side false x.side now)) (sym h) ∙ sym q in
+        let m : turn_length now false (drop l a) ≡ n = ap (λ (x : FedSide). x.taken) (sym h) in
+        let d : turned now false (drop l a) ≡ comparing_of o' = ap (λ (x : FedSide). settled (with_side false x.side now)) (sym h) ∙ sym q in
         record {
           left_within = omega (arith, f.left_within, g);
           right_within = f.right_within;
           all = f.all
               ∙ ap (further l r) (fed_left now (drop l a) (drop r b) left_can)
-              ∙ ap₂ (λ (x : Comparing) (m : ℕ). further l r (further m 0 (fed x (drop m (drop l a)) (drop r b)))) d n
-              ∙ further_left l r k.taken (fed (both_in o' lb' rb lc' rc) (drop k.taken (drop l a)) (drop r b))
-              ∙ ap (λ (x : List ℕ). further (l + k.taken) r (fed (both_in o' lb' rb lc' rc) x (drop r b))) (drop-drop k.taken l a);
+              ∙ ap₂ (λ (x : Comparing) (m : ℕ). further l r (further m 0 (fed x (drop m (drop l a)) (drop r b)))) d m
+              ∙ further_left l r n (fed (comparing_of o') (drop n (drop l a)) (drop r b))
+              ∙ ap (λ (x : List ℕ). further (l + n) r (fed (comparing_of o') x (drop r b))) (drop-drop n l a);
         }
 
   -- where the left log can take nothing
-  module _ (w : Bool) (e : w ≡ is_wanted now.left) (t : (w && ltb l (length a)) ≡ false) (v : Bool) (g : v ≡ is_wanted now.right) where
-    left_cannot : can_take now.left (drop l a) ≡ false
-    left_cannot = sym (test_is now.left w a l e) ∙ t
-
+  module _ (left_cannot : can_take now.left (drop l a) ≡ false) where
     -- a turn of the right log
-    module _ (u : (v && ltb r (length b)) ≡ true) (k : Took) (rb' rc' : List ℕ) (h : took_in k rb' rc' ≡ fed_side now.right (drop r b)) where
+    module _ (e : is_wanted now.right ≡ true) (t : r < length b) (k : Log) (n : ℕ) (h : record { side = log_in k; taken = n } ≡ fed_side now.right (drop r b)) where
       right_can : can_take now.right (drop r b) ≡ true
-      right_can = sym (test_is now.right v b r g) ∙ u
+      right_can = rw (e, some_left b r t)
 
-      pub right_taken : (0 < k.taken) × (k.taken ≤ length b - r)
+      pub right_taken : (0 < n) × (n ≤ length b - r)
       right_taken =
           let c = can_take_lem now.right (drop r b) right_can in
-          let q : k.taken ≡ (fed_side now.right (drop r b)).taken = ap (λ (x : FedSide). x.taken) h in
+          let q : n ≡ (fed_side now.right (drop r b)).taken = ap (λ (x : FedSide). x.taken) h in
           (omega (arith, c.0), omega (arith, c.1, length-drop r b))
 
-      pub right_turn : (o' : Both) → both_in o' lb rb' lc rc' ≡ settled (both_in (record { left = o.left; right = k.side; progress = o.progress }) lb rb' lc rc')
-          → Feeding c₀ a b (both_in o' lb rb' lc rc') l (r + k.taken)
+      pub right_turn : (o' : Comparer) → comparing_of o' ≡ settled (comparing_of (record { left = o.left; right = k; progress = o.progress }))
+          → Feeding c₀ a b (comparing_of o') l (r + n)
       unfolding turned
       right_turn o' q =
           let i = right_taken in
-          let n : turn_length now true (drop r b) ≡ k.taken = ap (λ (x : FedSide). x.taken) (sym h) in
-          let d : turned now true (drop r b) ≡ both_in o' lb rb' lc rc' = ap (λ (x : FedSide). settled (with_side true x.side now)) (sym h) ∙ sym q in
+          let m : turn_length now true (drop r b) ≡ n = ap (λ (x : FedSide). x.taken) (sym h) in
+          let d : turned now true (drop r b) ≡ comparing_of o' = ap (λ (x : FedSide). settled (with_side true x.side now)) (sym h) ∙ sym q in
           record {
             left_within = f.left_within;
             right_within = omega (arith, f.right_within, i);
             all = f.all
                 ∙ ap (further l r) (fed_right now (drop l a) (drop r b) left_cannot right_can)
-                ∙ ap₂ (λ (x : Comparing) (m : ℕ). further l r (further 0 m (fed x (drop l a) (drop m (drop r b))))) d n
-                ∙ further_right l r k.taken (fed (both_in o' lb rb' lc rc') (drop l a) (drop k.taken (drop r b)))
-                ∙ ap (λ (x : List ℕ). further l (r + k.taken) (fed (both_in o' lb rb' lc rc') (drop l a) x)) (drop-drop k.taken r b);
+                ∙ ap₂ (λ (x : Comparing) (m : ℕ). further l r (further 0 m (fed x (drop l a) (drop m (drop r b))))) d m
+                ∙ further_right l r n (fed (comparing_of o') (drop l a) (drop n (drop r b)))
+                ∙ ap (λ (x : List ℕ). further l (r + n) (fed (comparing_of o') (drop l a) x)) (drop-drop n r b);
           }
 
     -- nothing more can be taken
-    pub ends : (v && ltb r (length b)) ≡ false → record { comparing = now; left = l; right = r } ≡ fed c₀ a b
+    pub ends : can_take now.right (drop r b) ≡ false → fed_in o (record { left = l; right = r }) ≡ fed c₀ a b
     ends u = sym (f.all
-        ∙ ap (further l r) (fed_none now (drop l a) (drop r b) left_cannot (sym (test_is now.right v b r g) ∙ u))
+        ∙ ap (further l r) (fed_none now (drop l a) (drop r b) left_cannot u)
         ∙ ap₂ (λ (x y : ℕ). record { comparing = now; left = x; right = y }) (add-zero l) (add-zero r))
 
--- the answer: a verdict by its number
-abbrev verdict_at : Progress → Verdict
-verdict_at p = cond (eqb p.what 0) equal (differs_at p.number (sides p.place p.place) (what_in p.what))
+-- the verdict of a progress
+verdict_lem : (p : Progress) → verdict_in (found p) ≡ verdict_by (progress_in p) [] []
+verdict_lem (Going number place) = refl
+verdict_lem (Decided d) = refl
 
-verdict_at_lem : (p : Progress) → verdict_at p ≡ verdict_by (progress_in p) [] []
-verdict_at_lem p = split (eqb p.what 0) (λ e. rw e) (λ e. rw e)
-
-waits_short : (s : Side) (bytes counts : List ℕ) → length (side_in s bytes counts).waiting ≤ 1
-waits_short s bytes counts = split (eqb s.waits 0) (λ e. rw e (omega arith)) (λ e. rw e (omega arith))
-
-waits_some : (s : Side) (bytes counts : List ℕ) → not (eqb (length (side_in s bytes counts).waiting) 0) ≡ not (eqb s.waits 0)
-waits_some s bytes counts = split (eqb s.waits 0) (λ e. rw e) (λ e. rw e)
+short_by : (s : Log) (w : Option Whole) → s.waits ≡ w → length (log_in s).waiting ≤ 1
+short_by s None e = rw e (omega arith)
+short_by s (Some n) e = rw e (omega arith)
 
 -- the answer, from the settled comparer
-pub answer_found : (o d : Both) (l r lc rc : List ℕ) (p : Progress) (e f : Ending) → both_in d l r lc rc ≡ settled (both_in o l r lc rc)
-    → progress_in p ≡ cond (not (eqb d.left.waits 0) || not (eqb d.right.waits 0)) (alone (progress_in d.progress)) (progress_in d.progress)
-    → e ≡ end_of (reading_of l d.left.cursor) → f ≡ end_of (reading_of r d.right.cursor)
-    → record { verdict = verdict_at p; counts = sides lc rc; endings = sides e f } ≡ answer_of (both_in o l r lc rc)
+pub answer_found : (o d : Comparer) (p : Progress) (q : Option Difference) (e f : Ending) → comparing_of d ≡ settled (comparing_of o)
+    → progress_in p ≡ cond (is_some d.left.waits || is_some d.right.waits) (alone (progress_in d.progress)) (progress_in d.progress)
+    → q ≡ found p → e ≡ end_of (reading_of d.left.bytes d.left.cursor) → f ≡ end_of (reading_of d.right.bytes d.right.cursor)
+    → record { verdict = verdict_in q; counts = sides d.left.counts d.right.counts; endings = sides e f } ≡ answer_of (comparing_of o)
 unfolding answer_of
-answer_found o d l r lc rc p e f same h u v =
-    let c = both_in o l r lc rc in
-    let x = both_in d l r lc rc in
+answer_found o d p q e f same h g u v =
+    let c = comparing_of o in
+    let x = comparing_of d in
     let one : (is_waiting x.left && is_waiting x.right) ≡ false = ap (λ (k : Comparing). is_waiting k.left && is_waiting k.right) same
-    ∙ settled_one c (waits_short o.left l lc) (waits_short o.right r rc) in
-    let verdict : verdict_at p ≡ verdict_by (progress_in d.progress) x.left.waiting x.right.waiting =
-    verdict_at_lem p
-    ∙ ap (λ (q : comparing.Progress). verdict_by q [] []) (h
-    ∙ sym (ap₂ (λ (y z : Bool). cond (y || z) (alone (progress_in d.progress)) (progress_in d.progress)) (waits_some d.left l lc) (waits_some d.right r rc)))
+    ∙ settled_one c (short_by o.left o.left.waits refl) (short_by o.right o.right.waits refl) in
+    let verdict : verdict_in q ≡ verdict_by (progress_in d.progress) x.left.waiting x.right.waiting =
+    ap verdict_in g ∙ verdict_lem p
+    ∙ ap (λ (z : comparing.Progress). verdict_by z [] []) (h
+    ∙ sym (ap₂ (λ (y z : Bool). cond (y || z) (alone (progress_in d.progress)) (progress_in d.progress)) (waiting_is d.left) (waiting_is d.right)))
     ∙ sym (last_verdict (progress_in d.progress) x.left.waiting x.right.waiting one) in
-    ap₂ (λ (y z : Ending). record { verdict = verdict_at p; counts = sides lc rc; endings = sides y z }) u v
-    ∙ ap (λ (y : Verdict). record { verdict = y; counts = sides lc rc; endings = (answer_of x).endings }) verdict
+    ap₂ (λ (y z : Ending). record { verdict = verdict_in q; counts = sides d.left.counts d.right.counts; endings = sides y z }) u v
+    ∙ ap (λ (y : Verdict). record { verdict = y; counts = sides d.left.counts d.right.counts; endings = (answer_of x).endings }) verdict
     ∙ ap answer_of same
     ∙ settled_answer c

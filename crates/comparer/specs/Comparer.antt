@@ -1,76 +1,97 @@
 -- The comparer as what is compared (`Comparing`), and its answer as the comparison of two logs (document 02, W-209).
 -- Assumes nothing.
-use Rattle.std.specs.Prelude.{◌≡◌, ℕ, ◌<◌, ◌≤◌, Bool, cond, ◌&&◌, List, [], ◌∷◌, length, take, ◌==◌, nat_le, nat_lt}
+use Rattle.std.specs.Prelude.{◌≡◌, ℕ, ◌<◌, ◌≤◌, Bool, true, false, ◌&&◌, List, length, nat_le, nat_lt, Option, None, Some}
+use Rattle.std.specs.declared.ops.Range.{Range}
 use Rattle.comparison.specs.Compare as compare
-use Rattle.comparison.specs.Compare.{What, in_kind, in_body, in_end, Verdict, equal, differs_at, sides, is_past}
+use Rattle.comparison.specs.Compare.{in_kind, in_body, in_end, Verdict, equal, differs, sides, is_past}
 use Rattle.comparison.specs.Comparing as comparing
-use Rattle.comparison.specs.Comparing.{going, decided_at, Comparing, side_of, with_side, closed_side}
+use Rattle.comparison.specs.Comparing.{going, decided, Comparing}
 use Rattle.comparer.specs.declared.Comparer.{Comparer}
 use Rattle.comparer.specs.declared.Comparison.{Comparison}
+use Rattle.comparer.specs.declared.Difference.{Difference}
 use Rattle.comparer.specs.declared.End.{End}
-use Rattle.comparer.specs.declared.Fed.{Fed}
-use Rattle.comparer.specs.declared.Both.{Both}
-use Rattle.comparer.specs.declared.Past.{Past}
+use Rattle.comparer.specs.declared.Ending.{Ending}
+use Rattle.comparer.specs.declared.Ending.TheVariants.{Whole, Bad, Cut}
+use Rattle.comparer.specs.declared.Field.{Field}
+use Rattle.comparer.specs.declared.Log.{Log}
 use Rattle.comparer.specs.declared.Progress.{Progress}
+use Rattle.comparer.specs.declared.Progress.TheVariants.{Going, Decided}
 use Rattle.comparer.specs.declared.Side.{Side}
-use Rattle.comparer.specs.declared.Took.{Took}
-use Rattle.reading.specs.Reading.{Ending, at_end, bad_at, cut_at}
-use Rattle.reader.specs.Turn.{reading_of}
+use Rattle.comparer.specs.declared.Side.TheVariants.{Left, Right}
+use Rattle.comparer.specs.declared.Taken.{Taken}
+use Rattle.comparer.specs.declared.What.{What}
+use Rattle.comparer.specs.declared.What.TheVariants.{Kind, Body, End as InEnd}
+use Rattle.reading.specs.Reading as reading
+use Rattle.reading.specs.Reading.{at_end, bad_at, cut_at}
+use Rattle.reader.specs.Turn.{reading_of, came_of}
 
--- a log with its bytes and its counts; a record that waits is the first bytes of 28
-abbrev pub side_in : Side → List ℕ → List ℕ → comparing.Side
-side_in s bytes counts = record {
-  reading = reading_of bytes s.cursor;
-  waiting = cond (s.waits == 0) [] (take s.waits bytes ∷ []);
-  counts = counts;
-  over = s.over;
-}
+-- whether a log is the right one
+abbrev pub is_right : Side → Bool
+is_right Left = false
+is_right Right = true
 
-abbrev pub took_in : Took → List ℕ → List ℕ → comparing.FedSide
-took_in t bytes counts = record { side = side_in t.side bytes counts; taken = t.taken }
+-- a log with its bytes and its counts
+abbrev pub log_in : Log → comparing.Side
+log_in l = record { reading = reading_of l.bytes l.cursor; waiting = came_of l.waits l.bytes; counts = l.counts; over = l.over }
 
--- what differs, by its number: 1 kind, 2 body, any other the end
-abbrev pub what_in : ℕ → What
-what_in w = cond (w == 1) in_kind (cond (w == 2) in_body in_end)
+abbrev pub what_in : What → compare.What
+what_in Kind = in_kind
+what_in Body = in_body
+what_in InEnd = in_end
 
--- 0: nothing differs so far
+abbrev pub difference_in : Difference → compare.Difference
+difference_in d = record { number = d.number; offsets = sides d.left_offset d.right_offset; what = what_in d.what }
+
 abbrev pub progress_in : Progress → comparing.Progress
-progress_in p = cond (p.what == 0) (going p.number p.place) (decided_at p.number p.place (what_in p.what))
+progress_in (Going number place) = going number place
+progress_in (Decided d) = decided (difference_in d)
 
--- both logs, each with its bytes and its counts
-abbrev pub both_in : Both → List ℕ → List ℕ → List ℕ → List ℕ → Comparing
-both_in b l r lc rc = record { left = side_in b.left l lc; right = side_in b.right r rc; progress = progress_in b.progress }
-
--- nothing more comes of one of the logs
-abbrev pub closed : Bool → Comparing → Comparing
-closed right c = with_side right (closed_side (side_of right c)) c
+-- the difference that has been found
+abbrev pub found : Progress → Option Difference
+found (Going number place) = None
+found (Decided d) = Some d
 
 abbrev pub comparing_of : Comparer → Comparing
-comparing_of c = both_in c.both c.left_bytes c.right_bytes c.left_counts c.right_counts
+comparing_of c = record { left = log_in c.left; right = log_in c.right; progress = progress_in c.progress }
 
-abbrev pub fed_in : Fed → comparing.Fed
-fed_in f = record { comparing = comparing_of f.comparer; left = f.left; right = f.right }
+abbrev pub fed_in : Comparer → Taken → comparing.Fed
+fed_in c t = record { comparing = comparing_of c; left = t.left; right = t.right }
 
--- how a log ends, by its number: 1 bad, 2 cut, any other at its end
-abbrev pub end_at : ℕ → ℕ → Ending
-end_at ending place = cond (ending == 1) (bad_at place) (cond (ending == 2) (cut_at place) at_end)
+-- how a log ends
+abbrev pub end_at : Ending → reading.Ending
+end_at Whole = at_end
+end_at (Bad place) = bad_at place
+end_at (Cut place) = cut_at place
 
-abbrev pub end_in : End → Ending
-end_in e = end_at e.ending e.place
+abbrev pub end_in : End → reading.Ending
+end_in e = end_at e.ending
 
--- 0: equal
-abbrev pub verdict_in : Comparison → Verdict
-verdict_in c = cond (c.what == 0) equal (differs_at c.number (sides c.left_offset c.right_offset) (what_in c.what))
+-- none: equal
+abbrev pub verdict_in : Option Difference → Verdict
+verdict_in None = equal
+verdict_in (Some d) = differs (difference_in d)
 
 abbrev pub comparison_of : Comparison → compare.Comparison
 comparison_of c = record {
-  verdict = verdict_in c;
+  verdict = verdict_in c.difference;
   counts = sides c.left.counts c.right.counts;
   endings = sides (end_in c.left) (end_in c.right);
 }
 
--- the places of a record's bytes past its length; what begins them is no kind, and they end after they begin
-pub record Marks (r : List ℕ) (p : Past) : Type 0 where
-  pub marks : (at : ℕ) → at < length r → (nat_le p.from at && nat_lt at p.to) ≡ is_past r at
-  pub some : 0 < p.from
-  pub ordered : p.from ≤ p.to
+-- where a kind has a length; one with none has room for no byte
+abbrev pub field_in : Option Field → compare.Field
+field_in None = record { length_at = 0; size = 0 }
+field_in (Some f) = record { length_at = f.length_at; size = f.size }
+
+-- the places of a record's bytes past its length, if there are any
+abbrev pub is_in : Option (Range ℕ) → ℕ → Bool
+is_in None at = false
+is_in (Some p) at = nat_le p.start at && nat_lt at p.end
+
+abbrev pub IsWithin : List ℕ → Option (Range ℕ) → Type 0
+IsWithin r None = Unit {0}
+IsWithin r (Some p) = (p.start ≤ p.end) × (p.end ≤ length r)
+
+pub record Marks (r : List ℕ) (p : Option (Range ℕ)) : Type 0 where
+  pub marks : (at : ℕ) → at < length r → is_in p at ≡ is_past r at
+  pub within : IsWithin r p

@@ -1,179 +1,141 @@
 // Two recorded sessions compared while they come in portions.
 #![tactic(auto)]
 
-ghost use Rattle.std.specs.Prelude.{◌≡◌, ℕ, ◌≤◌, false, ◌||◌, List, length};
+ghost use Rattle.std.specs.Prelude.{◌≡◌, ℕ, ◌≤◌, ◌||◌, MatchOption, List, length};
 ghost use Rattle.comparison.specs.Compare.{field_of, meant, same_bytes, kinds};
-ghost use Rattle.comparison.specs.Comparing.{met, alone, counted, is_wanted, fed_side, settled, fresh_comparing, side_of, fed, over, answer_of};
-ghost use Rattle.comparer.specs.Comparer.{Marks, side_in, took_in, progress_in, both_in, closed, comparing_of, fed_in, end_at, end_in, comparison_of};
+ghost use Rattle.comparison.specs.Comparing.{met, alone, counted, is_wanted, FedSide, fed_side, fresh_side, settled, fresh_comparing, side_of, decided_at, fed, over, answer_of};
+ghost use Rattle.comparer.specs.Comparer.{field_in, Marks, is_right, log_in, progress_in, comparing_of, fed_in, end_at, end_in, comparison_of, found, what_in};
 ghost use Rattle.reading.specs.Reading.{end_of};
 ghost use Rattle.session_log.specs.Record.{kind_of};
 ghost use Rattle.reader.specs.Turn.{reading_of};
 
-use reader::Cursor;
+use reader::{Cursor, Whole};
+use std::ops::Range;
 
-// What differs first.
-pub const EQUAL: u8 = 0;
-
-pub const KIND: u8 = 1;
-
-pub const BODY: u8 = 2;
-
-pub const END: u8 = 3;
-
-// How a log ends.
-pub const WHOLE: u8 = 0;
-
-pub const BAD: u8 = 1;
-
-pub const CUT: u8 = 2;
-
-// One of the two logs: where it is read, the length of a whole record that waits for one of the other log, 0 for none, and whether nothing more comes.
-#[repr(C)]
-#[derive(Clone, Copy)]
-pub struct Side {
-    cursor: Cursor,
-    waits: usize,
-    over: bool,
+// One of the two logs.
+#[derive(Clone, Copy, PartialEq, Eq)]
+pub enum Side {
+    Left,
+    Right,
 }
 
-#[repr(C)]
-#[derive(Clone, Copy)]
-struct Took {
-    side: Side,
-    taken: usize,
+// What of two records differs.
+#[derive(Clone, Copy, PartialEq, Eq)]
+pub enum What {
+    Kind,
+    Body,
+    End,
 }
 
-// The number and the place of the next two records, or of the first that differ.
-#[repr(C)]
-#[derive(Clone, Copy)]
-pub struct Progress {
-    number: u64,
-    place: u64,
-    what: u8,
-}
-
-// Both logs, without their bytes and counts.
-#[repr(C)]
-#[derive(Clone, Copy)]
-pub struct Both {
-    left: Side,
-    right: Side,
-    progress: Progress,
-}
-
-// Both logs, the bytes of a record of each, and how many records of each kind have come.
-#[repr(C)]
-#[derive(Clone, Copy)]
-pub struct Comparer {
-    both: Both,
-    left_bytes: [u8; 28],
-    right_bytes: [u8; 28],
-    left_counts: [u64; 11],
-    right_counts: [u64; 11],
-}
-
-// The comparer after a portion of each log, and how many bytes of each were taken.
-#[repr(C)]
-#[derive(Clone, Copy)]
-pub struct Fed {
-    pub comparer: Comparer,
-    pub left: usize,
-    pub right: usize,
-}
-
-// How many records of each kind a log has, how it ends, and where.
-#[repr(C)]
-#[derive(Clone, Copy)]
-pub struct End {
-    pub counts: [u64; 11],
-    pub ending: u8,
-    pub place: u64,
-}
-
-// What differs first, if anything does; the number of that record, and its offset in each log; and how each log ends.
-#[repr(C)]
-#[derive(Clone, Copy)]
-pub struct Comparison {
-    pub what: u8,
+// The first difference: the number of the record, and its offset in each log.
+#[derive(Clone, Copy, PartialEq, Eq)]
+pub struct Difference {
+    pub what: What,
     pub number: u64,
     pub left_offset: u64,
     pub right_offset: u64,
+}
+
+// How a log ends; a bad or cut one with the place where it does.
+#[derive(Clone, Copy, PartialEq, Eq)]
+pub enum Ending {
+    Whole,
+    Bad(u64),
+    Cut(u64),
+}
+
+// How many records of each kind a log has, and how it ends.
+#[derive(Clone, Copy)]
+pub struct End {
+    pub counts: [u64; 11],
+    pub ending: Ending,
+}
+
+// What differs first, if anything does, and how each log ends.
+#[derive(Clone, Copy)]
+pub struct Comparison {
+    pub difference: Option<Difference>,
     pub left: End,
     pub right: End,
 }
 
+// How many bytes of a portion of each log were taken.
+#[derive(Clone, Copy, PartialEq, Eq)]
+pub struct Taken {
+    pub left: usize,
+    pub right: usize,
+}
+
+// A log: where it is read, the whole record that waits for one of the other log, whether nothing more comes, the bytes of a record, and how many records of
+// each kind have come.
+#[derive(Clone, Copy)]
+struct Log {
+    cursor: Cursor,
+    waits: Option<Whole>,
+    over: bool,
+    bytes: [u8; 28],
+    counts: [u64; 11],
+}
+
+// The number and the place of the next two records, or the first difference.
+#[derive(Clone, Copy)]
+enum Progress {
+    Going(u64, u64),
+    Decided(Difference),
+}
+
+// Both logs, and how far the comparison has come.
+#[derive(Clone, Copy)]
+pub struct Comparer {
+    left: Log,
+    right: Log,
+    progress: Progress,
+}
+
 // Where a record of a kind has a length, and for how many bytes there is room after it.
-#[repr(C)]
 #[derive(Clone, Copy)]
 struct Field {
     length_at: usize,
-    size: u8,
+    size: usize,
 }
 
-// Where the bytes past a length begin and end.
-#[repr(C)]
-#[derive(Clone, Copy)]
-struct Past {
-    from: usize,
-    to: usize,
-}
-
-fn field_of(kind: u8) -> Field
-    ensures length_at_value { result.length_at ≡ (field_of kind).length_at }
-    ensures size_value { result.size ≡ (field_of kind).size }
-    ensures length_at_bound { result.length_at ≤ 10 }
-    ensures size_bound { result.size ≤ 16 }
+fn field_of(kind: u8) -> Option<Field>
+    ensures value { field_in result ≡ field_of kind }
+    ensures bound { MatchOption result Unit (λ field. (field.length_at ≤ 10) × (field.size ≤ 16)) }
 {
     match kind {
-        4 => Field {
+        4 => Some(Field {
             length_at: 2,
             size: 16,
-        },
-        9 => Field {
+        }),
+        9 => Some(Field {
             length_at: 1,
             size: 16,
-        },
-        10 => Field {
+        }),
+        10 => Some(Field {
             length_at: 10,
             size: 14,
-        },
-        _ => Field {
-            length_at: 0,
-            size: 0,
-        },
+        }),
+        _ => None,
     }
 }
 
-// Nowhere, if there is no length, or if it leaves no byte past it.
-fn past_of(bytes: &[u8]) -> Past
+// Where the bytes past a length lie, if a record has a length.
+fn past_of(bytes: &[u8]) -> Option<Range<usize>>
     ensures { Marks bytes.now result }
 {
-    if bytes.len() == 0 {
-        return Past { from: 1, to: 1 };
-    }
-    let kind = bytes[0];
-    let field = field_of(kind);
-    let at = field.length_at;
-    if bytes.len() <= at {
-        return Past { from: 1, to: 1 };
-    }
-    let length = bytes[at];
-    if field.size <= length {
-        return Past { from: 1, to: 1 };
-    }
-    Past {
-        from: at + 1 + length as usize,
-        to: at + 1 + field.size as usize,
-    }
+    let kind = *bytes.first()?;
+    let field = field_of(kind)?;
+    let length = usize::from(*bytes.get(field.length_at)?);
+    let from = field.length_at + 1;
+    let end = (from + field.size).min(bytes.len());
+    Some((from + length).min(end)..end)
 }
 
 fn kind_of(bytes: &[u8]) -> u8
     ensures { result ≡ kind_of bytes.now }
 {
-    if bytes.len() == 0 {
-        return 0;
-    }
-    bytes[0]
+    bytes.first().copied().unwrap_or(0)
 }
 
 // Whether two records agree: "Bytes past a length don't make a difference, all others do."
@@ -183,215 +145,143 @@ fn agree(left: &[u8], right: &[u8]) -> bool
     if left.len() != right.len() {
         return false;
     }
-    let past = past_of(left);
-    let mut i = 0;
-    while i < left.len() {
-        if left[i] != right[i] {
-            return false;
+    match past_of(left) {
+        Some(past) => {
+            left[..past.start] == right[..past.start] && left[past.end..] == right[past.end..]
         }
-        i += 1;
-        if i == past.from {
-            i = past.to;
-        }
+        None => left == right,
     }
-    true
 }
 
 // One record more of a kind.
-fn count(counts: &mut [u64; 11], kind: u8)
-    requires { length counts.old ≡ 11 }
-    ensures counts_after { counts.new ≡ counted kinds counts.old kind }
-    ensures counts_len { length counts.new ≡ 11 }
+fn counted(mut counts: [u64; 11], kind: u8) -> [u64; 11]
+    ensures { result ≡ counted kinds counts kind }
 {
     if (kind == 0) | (11 < kind) {
-        return;
+        return counts;
     }
-    let i = (kind - 1) as usize;
-    counts[i] = std::num::wrapping_add_u64(counts[i], 1);
+    let i = usize::from(kind - 1);
+    counts[i] = counts[i].wrapping_add(1);
+    counts
 }
 
-fn ending(cursor: Cursor) -> u8
-    ensures { (bytes : List ℕ) → length bytes ≡ 28 → end_at result cursor.place ≡ end_of (reading_of bytes cursor) }
-{
-    if cursor.ended {
-        return BAD;
-    }
-    if cursor.count == 0 {
-        return WHOLE;
-    }
-    CUT
-}
-
-impl Side {
-    fn fresh() -> Side
-        ensures cursor_value { result.cursor ≡ record { count = 0; place = 0; ended = false } }
-        ensures waits_value { result.waits ≡ 0 }
-        ensures over_value { result.over ≡ false }
+impl Log {
+    fn fresh() -> Log
+        ensures { log_in result ≡ fresh_side }
     {
-        Side {
+        Log {
             cursor: Cursor::fresh(),
-            waits: 0,
+            waits: None,
             over: false,
+            bytes: [0; 28],
+            counts: [0; 11],
         }
     }
 
     // "A bad or cut log is .. taken as ending there."
-    fn is_done(self) -> bool
-        ensures { result ≡ (self.over || self.cursor.ended) }
+    fn is_done(&self) -> bool
+        ensures { result ≡ (self.now.over || self.now.cursor.ended) }
     {
-        let cursor = self.cursor;
-        self.over | cursor.ended
+        self.over || self.cursor.ended
     }
 
     // Bytes can be taken: no record waits, and the log is not done.
-    fn is_wanted(self) -> bool
-        ensures { (bytes counts : List ℕ) → result ≡ is_wanted (side_in self bytes counts) }
+    fn is_wanted(&self) -> bool
+        ensures { result ≡ is_wanted (log_in self.now) }
     {
-        (self.waits == 0) & !self.is_done()
+        self.waits.is_none() && !self.is_done()
     }
 
-    // Takes a portion up to the end of a record; nothing while a record waits, or once nothing more comes.
-    fn read(self, bytes: &mut [u8; 28], counts: &mut [u64; 11], portion: &[u8]) -> Took
-        requires { length counts.old ≡ 11 }
-        ensures counts_after { took_in result bytes.new counts.new ≡ fed_side (side_in self bytes.old counts.old) portion.now }
-        ensures counts_len { length counts.new ≡ 11 }
+    // Takes a portion up to the end of a record, and says how much of it; nothing while a record waits, or once nothing more comes.
+    fn read(&mut self, portion: &[u8]) -> usize
+        ensures { record { side = log_in self.new; taken = result } ≡ fed_side (log_in self.old) portion.now }
     {
-        if (self.waits != 0) | self.over {
-            return Took {
-                side: self,
-                taken: 0,
-            };
+        if self.waits.is_some() || self.over {
+            return 0;
         }
-        let cursor = self.cursor;
-        let turn = reader::read(bytes, cursor, portion);
-        let next = turn.cursor;
-        if turn.call == 0 {
-            return Took {
-                side: Side {
-                    cursor: next,
-                    waits: 0,
-                    over: false,
-                },
-                taken: turn.taken,
-            };
+        let turn = reader::read(&mut self.bytes, self.cursor, portion);
+        self.cursor = turn.cursor;
+        self.waits = turn.came;
+        if turn.came.is_some() {
+            self.counts = counted(self.counts, self.bytes[0]);
         }
-        count(counts, bytes[0]);
-        Took {
-            side: Side {
-                cursor: next,
-                waits: turn.length,
-                over: false,
-            },
-            taken: turn.taken,
-        }
+        turn.taken
     }
 
-    fn end(self, counts: [u64; 11]) -> End
-        ensures counts_value { result.counts ≡ counts }
-        ensures by_index { (bytes : List ℕ) → length bytes ≡ 28 → end_in result ≡ end_of (reading_of bytes self.cursor) }
+    fn ending(self) -> Ending
+        ensures { end_at result ≡ end_of (reading_of self.bytes self.cursor) }
     {
-        let cursor = self.cursor;
+        if self.cursor.ended {
+            return Ending::Bad(self.cursor.place);
+        }
+        if self.cursor.count == 0 {
+            return Ending::Whole;
+        }
+        Ending::Cut(self.cursor.place)
+    }
+
+    fn end(self) -> End
+        ensures counts_value { result.counts ≡ self.counts }
+        ensures ending_value { end_in result ≡ end_of (reading_of self.bytes self.cursor) }
+    {
+        let counts = self.counts;
         End {
-            counts: counts,
-            ending: ending(cursor),
-            place: cursor.place,
-        }
-    }
-
-    // Without the record that waited.
-    fn released(self) -> Side
-        ensures { result ≡ record { cursor = self.cursor; waits = 0; over = self.over } }
-    {
-        let cursor = self.cursor;
-        Side {
-            cursor: cursor,
-            waits: 0,
-            over: self.over,
+            counts,
+            ending: self.ending(),
         }
     }
 }
 
 impl Progress {
     // The two records of one number: kind before body.
-    fn met(mut self, left: &[u8], right: &[u8]) -> Progress
+    fn met(self, left: &[u8], right: &[u8]) -> Progress
         ensures { progress_in result ≡ met (progress_in self) left.now right.now }
     {
-        if self.what != EQUAL {
+        let Progress::Going(number, place) = self else {
             return self;
-        }
+        };
         if kind_of(left) != kind_of(right) {
-            self.what = KIND;
-            return self;
+            return decided(What::Kind, number, place);
         }
         if !agree(left, right) {
-            self.what = BODY;
-            return self;
+            return decided(What::Body, number, place);
         }
-        self.number = std::num::wrapping_add_u64(self.number, 1);
-        self.place = std::num::wrapping_add_u64(self.place, left.len() as u64);
-        self
+        Progress::Going(
+            number.wrapping_add(1),
+            place.wrapping_add(left.len() as u64),
+        )
     }
 
     // A record where the other log has none.
-    fn alone(mut self) -> Progress
+    fn alone(self) -> Progress
         ensures { progress_in result ≡ alone (progress_in self) }
     {
-        if self.what == EQUAL {
-            self.what = END;
+        match self {
+            Progress::Going(number, place) => decided(What::End, number, place),
+            Progress::Decided(_) => self,
         }
-        self
+    }
+
+    fn difference(self) -> Option<Difference>
+        ensures { result ≡ found self }
+    {
+        match self {
+            Progress::Going(_, _) => None,
+            Progress::Decided(difference) => Some(difference),
+        }
     }
 }
 
-impl Both {
-    // Two records that wait meet; one that waits for a log that is done has none to meet.
-    fn settled(self, left_bytes: [u8; 28], right_bytes: [u8; 28]) -> Both
-        ensures { (lc rc : List ℕ) → both_in result left_bytes right_bytes lc rc ≡ settled (both_in self left_bytes right_bytes lc rc) }
-    {
-        let left = self.left;
-        let right = self.right;
-        let progress = self.progress;
-        let n = lists::at_most(left.waits, 28);
-        let m = lists::at_most(right.waits, 28);
-        if (n != 0) & (m != 0) {
-            return Both {
-                left: left.released(),
-                right: right.released(),
-                progress: progress.met(&left_bytes[..n], &right_bytes[..m]),
-            };
-        }
-        if (n != 0) & right.is_done() {
-            return Both {
-                left: left.released(),
-                right: right,
-                progress: progress.alone(),
-            };
-        }
-        if (m != 0) & left.is_done() {
-            return Both {
-                left: left,
-                right: right.released(),
-                progress: progress.alone(),
-            };
-        }
-        self
-    }
-
-    // Nothing more comes of a log.
-    fn closed(mut self, right: bool) -> Both
-        ensures { (l r' lc rc : List ℕ) → both_in result l r' lc rc ≡ closed right (both_in self l r' lc rc) }
-    {
-        if right {
-            let mut side = self.right;
-            side.over = true;
-            self.right = side;
-            return self;
-        }
-        let mut side = self.left;
-        side.over = true;
-        self.left = side;
-        self
-    }
+// Up to the first difference both logs are at one place.
+fn decided(what: What, number: u64, place: u64) -> Progress
+    ensures { progress_in result ≡ decided_at number place (what_in what) }
+{
+    Progress::Decided(Difference {
+        what,
+        number,
+        left_offset: place,
+        right_offset: place,
+    })
 }
 
 impl Comparer {
@@ -399,116 +289,97 @@ impl Comparer {
         ensures { comparing_of result ≡ fresh_comparing }
     {
         Comparer {
-            both: Both {
-                left: Side::fresh(),
-                right: Side::fresh(),
-                progress: Progress {
-                    number: 0,
-                    place: 0,
-                    what: EQUAL,
-                },
-            },
-            left_bytes: [0; 28],
-            right_bytes: [0; 28],
-            left_counts: [0; 11],
-            right_counts: [0; 11],
+            left: Log::fresh(),
+            right: Log::fresh(),
+            progress: Progress::Going(0, 0),
         }
     }
 
-    // Whether a log, the right one or the left one, can take bytes: no record of it waits for one of the other log, and it is not done.
-    pub fn wants(self, right: bool) -> bool
-        ensures { result ≡ is_wanted (side_of right (comparing_of self)) }
+    // Whether a log can take bytes: no record of it waits for one of the other log, and it is not done.
+    pub fn wants(&self, side: Side) -> bool
+        ensures { result ≡ is_wanted (side_of (is_right side) (comparing_of self.now)) }
     {
-        let both = self.both;
-        if right {
-            let side = both.right;
-            return side.is_wanted();
+        match side {
+            Side::Left => self.left.is_wanted(),
+            Side::Right => self.right.is_wanted(),
         }
-        let side = both.left;
-        side.is_wanted()
+    }
+
+    // Two records that wait meet; one that waits for a log that is done has none to meet.
+    fn settle(&mut self)
+        ensures { comparing_of self.new ≡ settled (comparing_of self.old) }
+    {
+        match (self.left.waits, self.right.waits) {
+            (Some(first), Some(second)) => {
+                let left = &self.left.bytes[..first.length.min(28)];
+                let right = &self.right.bytes[..second.length.min(28)];
+                self.progress = self.progress.met(left, right);
+                self.left.waits = None;
+                self.right.waits = None;
+            }
+            (Some(_), None) => {
+                if self.right.is_done() {
+                    self.progress = self.progress.alone();
+                    self.left.waits = None;
+                }
+            }
+            (None, Some(_)) => {
+                if self.left.is_done() {
+                    self.progress = self.progress.alone();
+                    self.right.waits = None;
+                }
+            }
+            (None, None) => {}
+        }
     }
 
     // Takes a portion of each log, as long as one of the two wants bytes and has some.
-    pub fn feed(self, left: &[u8], right: &[u8]) -> Fed
-        ensures result_value { fed_in result ≡ fed (comparing_of self) left.now right.now }
+    pub fn feed(&mut self, left: &[u8], right: &[u8]) -> Taken
+        ensures result_value { fed_in self.new result ≡ fed (comparing_of self.old) left.now right.now }
         ensures left_in_bounds { result.left ≤ length left.now }
         ensures right_in_bounds { result.right ≤ length right.now }
     {
-        let mut both = self.both;
-        let mut left_bytes = self.left_bytes;
-        let mut right_bytes = self.right_bytes;
-        let mut left_counts = self.left_counts;
-        let mut right_counts = self.right_counts;
         let mut l = 0;
         let mut r = 0;
         loop {
-            let first = both.left;
-            let second = both.right;
-            if first.is_wanted() & (l < left.len()) {
-                let took = first.read(&mut left_bytes, &mut left_counts, &left[l..]);
-                let next = took.side;
-                let n = took.taken;
+            if self.left.is_wanted() && l < left.len() {
+                let n = self.left.read(&left[l..]);
                 l += n;
-                both.left = next;
-                both = both.settled(left_bytes, right_bytes);
-            } else if second.is_wanted() & (r < right.len()) {
-                let took = second.read(&mut right_bytes, &mut right_counts, &right[r..]);
-                let next = took.side;
-                let n = took.taken;
+            } else if self.right.is_wanted() && r < right.len() {
+                let n = self.right.read(&right[r..]);
                 r += n;
-                both.right = next;
-                both = both.settled(left_bytes, right_bytes);
             } else {
-                return Fed {
-                    comparer: Comparer {
-                        both: both,
-                        left_bytes: left_bytes,
-                        right_bytes: right_bytes,
-                        left_counts: left_counts,
-                        right_counts: right_counts,
-                    },
-                    left: l,
-                    right: r,
-                };
+                return Taken { left: l, right: r };
             }
+            self.settle();
         }
     }
 
     // Nothing more comes of a log.
-    pub fn over(mut self, right: bool) -> Comparer
-        ensures { comparing_of result ≡ over (comparing_of self) right }
+    pub fn over(&mut self, side: Side)
+        ensures { comparing_of self.new ≡ over (comparing_of self.old) (is_right side) }
     {
-        let both = self.both;
-        let both = both.closed(right);
-        let left_bytes = self.left_bytes;
-        let right_bytes = self.right_bytes;
-        self.both = both.settled(left_bytes, right_bytes);
-        self
+        match side {
+            Side::Left => self.left.over = true,
+            Side::Right => self.right.over = true,
+        }
+        self.settle();
     }
 
     // The answer, if nothing more comes of either log.
-    pub fn answer(self) -> Comparison
+    pub fn answer(mut self) -> Comparison
         ensures { comparison_of result ≡ answer_of (comparing_of self) }
     {
-        let left_bytes = self.left_bytes;
-        let right_bytes = self.right_bytes;
-        let left_counts = self.left_counts;
-        let right_counts = self.right_counts;
-        let both = self.both;
-        let both = both.settled(left_bytes, right_bytes);
-        let left = both.left;
-        let right = both.right;
-        let mut progress = both.progress;
-        if (left.waits != 0) | (right.waits != 0) {
-            progress = progress.alone();
-        }
+        self.settle();
+        let progress = if self.left.waits.is_some() | self.right.waits.is_some() {
+            self.progress.alone()
+        } else {
+            self.progress
+        };
         Comparison {
-            what: progress.what,
-            number: progress.number,
-            left_offset: progress.place,
-            right_offset: progress.place,
-            left: left.end(left_counts),
-            right: right.end(right_counts),
+            difference: progress.difference(),
+            left: self.left.end(),
+            right: self.right.end(),
         }
     }
 }

@@ -59,18 +59,18 @@ called side text h p q =
 
 -- the lines of a comparison, one after the other at the start of a buffer
 module _ {out : List ℕ} {m₁ : ℕ} {out₁ : List ℕ} (c : Comparison) (h : 640 ≤ length out)
-    (v : PutAt out 0 (verdict_line (verdict_in c)) m₁ out₁) where
+    (v : PutAt out 0 (verdict_line (verdict_in c.difference)) m₁ out₁) where
   pub left_room : m₁ + 34 ≤ length out₁
-  left_room = omega (arith, put_long v, v.place, verdict_most (verdict_in c))
+  left_room = omega (arith, put_long v, v.place, verdict_most (verdict_in c.difference))
 
   module _ {m₂ : ℕ} {out₂ : List ℕ} (l : PutAt out₁ m₁ (end_line left_word (end_in c.left)) m₂ out₂) where
     pub right_room : m₂ + 35 ≤ length out₂
-    right_room = omega (arith, put_long v, put_long l, v.place, l.place, verdict_most (verdict_in c), end_most left_word (end_in c.left))
+    right_room = omega (arith, put_long v, put_long l, v.place, l.place, verdict_most (verdict_in c.difference), end_most left_word (end_in c.left))
 
     module _ {m₃ : ℕ} {out₃ : List ℕ} (r : PutAt out₂ m₂ (end_line right_word (end_in c.right)) m₃ out₃) where
       pub counts_room : m₃ + 495 ≤ length out₃
       counts_room =
-          omega (arith, put_long v, put_long l, put_long r, v.place, l.place, r.place, verdict_most (verdict_in c), end_most left_word (end_in c.left), end_most right_word (end_in c.right))
+          omega (arith, put_long v, put_long l, put_long r, v.place, l.place, r.place, verdict_most (verdict_in c.difference), end_most left_word (end_in c.left), end_most right_word (end_in c.right))
 
       pub written : {end : ℕ} {out₄ : List ℕ} → PutAt out₃ m₃ (count_lines kinds c.left.counts c.right.counts) end out₄
           → (end ≡ length (text_in c out)) × ((out₄ ≡ text_in c out ++ drop (length (text_in c out)) out) × (end ≤ length out₄))

@@ -2,45 +2,43 @@
 #![tactic(auto)]
 
 ghost use Rattle.std.specs.Prelude.{◌+◌, ◌≤◌, ◌<◌, [], ◌∷◌, ◌++◌, ◌≡◌, length, drop};
-ghost use Rattle.comparer.specs.Comparer.{what_in, verdict_in, end_in};
+ghost use Rattle.comparer.specs.Comparer.{what_in, verdict_in, end_at};
 ghost use Rattle.comparison.specs.Compare.{kinds};
 ghost use Rattle.comparison.specs.Text.{what_word, verdict_line, end_line, count_lines};
 ghost use Rattle.comparison_text.specs.Text.{text_in};
 ghost use Rattle.session_log.specs.Text.{line_of};
 ghost use Rattle.text.specs.Line.{PutAt};
 
-use comparer::{BAD, BODY, CUT, Comparison, EQUAL, End, KIND};
+use comparer::{Comparison, Difference, Ending, What};
 use text::{bad_line, cut_line, first_value, value, word};
 
 // No comparison prints more.
 pub const TEXT_MAX: usize = 640;
 
 // Each of these functions puts its text at a place, and gives the place after it.
-fn what_line(out: &mut [u8], at: usize, what: u8) -> usize
+fn what_line(out: &mut [u8], at: usize, what: What) -> usize
     requires { at + 6 ≤ length out.old }
     ensures { PutAt out.old at (what_word (what_in what) ++ (10 ∷ [])) result out.new }
 {
-    if what == KIND {
-        return word(out, at, b" kind\n");
+    match what {
+        What::Kind => word(out, at, b" kind\n"),
+        What::Body => word(out, at, b" body\n"),
+        What::End => word(out, at, b" end\n"),
     }
-    if what == BODY {
-        return word(out, at, b" body\n");
-    }
-    word(out, at, b" end\n")
 }
 
-fn verdict_line(out: &mut [u8], at: usize, comparison: Comparison) -> usize
+fn verdict_line(out: &mut [u8], at: usize, difference: Option<Difference>) -> usize
     requires { at + 75 ≤ length out.old }
-    ensures { PutAt out.old at (verdict_line (verdict_in comparison)) result out.new }
+    ensures { PutAt out.old at (verdict_line (verdict_in difference)) result out.new }
 {
-    if comparison.what == EQUAL {
+    let Some(found) = difference else {
         return word(out, at, b"equal\n");
-    }
+    };
     let mut end = word(out, at, b"differ");
-    end = value(out, end, comparison.number);
-    end = value(out, end, comparison.left_offset);
-    end = value(out, end, comparison.right_offset);
-    what_line(out, end, comparison.what)
+    end = value(out, end, found.number);
+    end = value(out, end, found.left_offset);
+    end = value(out, end, found.right_offset);
+    what_line(out, end, found.what)
 }
 
 // A word and a blank.
@@ -53,19 +51,21 @@ fn named(out: &mut [u8], at: usize, side: &[u8]) -> usize
 }
 
 // "A bad or cut log is named as such with its offset".
-fn end_line(out: &mut [u8], at: usize, side: &[u8], log: End) -> usize
+fn end_line(out: &mut [u8], at: usize, side: &[u8], ending: Ending) -> usize
     requires { at + (length side.now + 30) ≤ length out.old }
-    ensures { PutAt out.old at (end_line side.now (end_in log)) result out.new }
+    ensures { PutAt out.old at (end_line side.now (end_at ending)) result out.new }
 {
-    if log.ending == BAD {
-        let end = named(out, at, side);
-        return bad_line(out, end, log.place);
+    match ending {
+        Ending::Whole => at,
+        Ending::Bad(place) => {
+            let end = named(out, at, side);
+            bad_line(out, end, place)
+        }
+        Ending::Cut(place) => {
+            let end = named(out, at, side);
+            cut_line(out, end, place)
+        }
     }
-    if log.ending == CUT {
-        let end = named(out, at, side);
-        return cut_line(out, end, log.place);
-    }
-    at
 }
 
 // The counts of a kind in both logs.
@@ -85,10 +85,8 @@ fn count_lines(out: &mut [u8], at: usize, left: [u64; 11], right: [u64; 11]) -> 
     ensures { PutAt out.old at (count_lines kinds left right) result out.new }
 {
     let mut end = at;
-    let mut i = 0;
-    while i < 11 {
+    for i in 0..11 {
         end = count_line(out, end, i as u64 + 1, left[i], right[i]);
-        i += 1;
     }
     end
 }
@@ -102,12 +100,8 @@ pub fn write(out: &mut [u8], comparison: Comparison) -> usize
     if out.len() < TEXT_MAX {
         return 0;
     }
-    let left = comparison.left;
-    let right = comparison.right;
-    let mut end = verdict_line(out, 0, comparison);
-    end = end_line(out, end, b"left", left);
-    end = end_line(out, end, b"right", right);
-    let left_counts = left.counts;
-    let right_counts = right.counts;
-    count_lines(out, end, left_counts, right_counts)
+    let mut end = verdict_line(out, 0, comparison.difference);
+    end = end_line(out, end, b"left", comparison.left.ending);
+    end = end_line(out, end, b"right", comparison.right.ending);
+    count_lines(out, end, comparison.left.counts, comparison.right.counts)
 }

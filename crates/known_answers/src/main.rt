@@ -32,12 +32,12 @@ fn masked(mask: u16) -> Settings {
     name[0] = 0x42;
     Settings {
         physical_address: 0x1000,
-        mask: mask,
+        mask,
         version: CEC_OP_CEC_VERSION_1_4,
         device_type: 4,
         vendor_id: 0x00A0B0,
         name_length: 1,
-        name: name,
+        name,
         all_device_types: 0,
         rc_profile: 0,
         device_features: 0,
@@ -72,9 +72,9 @@ fn request(length: u8, first: u8, opcode: u8, reply: u8) -> Request {
     bytes[0] = first;
     bytes[1] = opcode;
     Request {
-        length: length,
-        bytes: bytes,
-        reply: reply,
+        length,
+        bytes,
+        reply,
         timeout: 0,
         flags: 0,
     }

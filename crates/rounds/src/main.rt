@@ -14,7 +14,7 @@ fn poll() -> Request {
     bytes[0] = CEC_LOG_ADDR_UNREGISTERED * 16;
     Request {
         length: 1,
-        bytes: bytes,
+        bytes,
         reply: 0,
         timeout: 0,
         flags: 0,

@@ -72,7 +72,7 @@ fn configured(rt: &impl Print, adapter: Adapter) -> io::Result<Adapter> {
         device_type: 4,
         vendor_id: 0x00A0B0,
         name_length: 3,
-        name: name,
+        name,
         all_device_types: 0,
         rc_profile: 0,
         device_features: 0,
@@ -88,8 +88,8 @@ fn request(from: u8, to: u8, opcode: u8, reply: u8) -> Request {
     bytes[1] = opcode;
     Request {
         length: 2,
-        bytes: bytes,
-        reply: reply,
+        bytes,
+        reply,
         timeout: 0,
         flags: 0,
     }

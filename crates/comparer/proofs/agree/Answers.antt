@@ -1,16 +1,16 @@
 use Rattle.std.proofs.Common.{sym}
-use Rattle.comparer.proofs.Agreeing.{agree_length, agree_all, agree_not, not_past}
+use Rattle.comparer.proofs.Agreeing.{agree_length, agree_whole, agree_first, agree_last}
 use Rattle.comparer.proofs.agree.Goals as goal
 
 pub returns-then-left-right : goal.returns-then-left-right
 returns-then-left-right c = sym (agree_length c.args.left.now c.args.right.now c.if-left-right.true)
 
-pub returns-then-left-i : goal.returns-then-left-i
-returns-then-left-i c =
-    let l = c.args.left.now in
-    let r = c.args.right.now in
-    let at = c.loop-i in
-    sym (agree_not l r at.i (not_past l r c.past_of-past.result at.i c.past_of-past.ensures at.invariant c.loop-i-test.true) c.if-left-i.true)
+pub returns-then-eq : goal.returns-then-eq
+returns-then-eq c =
+    agree_last c.args.left.now c.args.right.now c.in-Some.past c.if-left-right.false c.in-Some.ensures c.eq.result c.eq-then-eq.result c.eq.ensures c.if-eq.true c.eq-then-eq.ensures
 
-pub returns : goal.returns
-returns c = sym (agree_all c.args.left.now c.args.right.now c.loop-i.i c.if-left-right.false c.loop-i-test.false c.loop-i.invariant.so_far)
+pub returns-else-eq : goal.returns-else-eq
+returns-else-eq c = agree_first c.args.left.now c.args.right.now c.in-Some.past c.if-left-right.false c.in-Some.ensures c.eq.result c.eq.ensures c.if-eq.false
+
+pub returns-in-None : goal.returns-in-None
+returns-in-None c = agree_whole c.args.left.now c.args.right.now c.eq-in-None.result c.if-left-right.false c.in-None.ensures c.eq-in-None.ensures

@@ -1,86 +1,78 @@
-use Rattle.std.proofs.Common.{◌+◌, ◌≤◌, length, arith, rules}
-use Rattle.comparer.proofs.Feeding.{rest, left_taken, left_turn, right_taken, right_turn, ends}
-use Rattle.comparer.specs.Comparer.{comparing_of}
+use Rattle.std.proofs.Common.{◌+◌, ◌≤◌, length, arith, rules, sym, ◌∙◌}
+use Rattle.comparer.proofs.Agreeing.{rest}
+use Rattle.comparer.proofs.Feeding.{begins, left_taken, left_turn, right_taken, right_turn, cannot, ends}
+use Rattle.comparer.specs.Comparer.{log_in, comparing_of}
 use Rattle.comparer.proofs.Comparer.feed.Goals as goal
+use Rattle.comparer.proofs.Comparer.feed.Goals.{then-is_wanted+then-l-left, else-is_wanted+then-is_wanted-2+then-r-right}
+
+pub loop-self-init : goal.loop-self-init
+loop-self-init c = begins (comparing_of c.args.self.now) c.args.left.now c.args.right.now
 
 pub overflow_add-l : goal.overflow_add-l
 overflow_add-l c =
-    let i = c.loop-l in
-    let a = c.args in
-    let k = c.read-took in
-    let t = left_taken (comparing_of a.self) a.left.now a.right.now i.both i.left_bytes i.right_bytes i.left_counts i.right_counts i.l i.r i.invariant.fed_so_far
-    c.is_wanted.result (c.is_wanted.ensures i.left_bytes i.left_counts) c.if-is_wanted-l.true
-    k.result k.new.bytes k.new.counts (rw (rest a.left.now i.l) at k.ensures.counts_after) in
-    let h : i.l + k.result.taken ≤ length a.left.now = omega (arith, t.1, i.invariant.fed_so_far.left_within) in
+    let i = c.loop-self in
+    let a = c.args.left.now in
+    let k = c.read-n in
+    let t = left_taken (comparing_of c.args.self.now) a c.args.right.now i.self i.l i.r i.invariant (sym c.is_wanted.ensures ∙ c.if-is_wanted.true) c.if-l-left.true
+    k.new.self k.result (rw (rest a i.l) at k.ensures) in
+    let h : i.l + k.result ≤ length a = omega (arith, t.1, i.invariant.left_within) in
     search rules
-
-pub loop-l-smaller-then-is_wanted-l : goal.loop-l-smaller-then-is_wanted-l
-loop-l-smaller-then-is_wanted-l c =
-    let i = c.loop-l in
-    let a = c.args in
-    let k = c.read-took in
-    let t = left_taken (comparing_of a.self) a.left.now a.right.now i.both i.left_bytes i.right_bytes i.left_counts i.right_counts i.l i.r i.invariant.fed_so_far
-    c.is_wanted.result (c.is_wanted.ensures i.left_bytes i.left_counts) c.if-is_wanted-l.true
-    k.result k.new.bytes k.new.counts (rw (rest a.left.now i.l) at k.ensures.counts_after) in
-    omega (arith, t.0, t.1)
-
-pub loop-l-preserved-then-is_wanted-l : goal.loop-l-preserved-then-is_wanted-l
-loop-l-preserved-then-is_wanted-l c =
-    let i = c.loop-l in
-    let a = c.args in
-    let k = c.read-took in
-    record {
-      fed_so_far = left_turn (comparing_of a.self) a.left.now a.right.now i.both i.left_bytes i.right_bytes i.left_counts i.right_counts i.l i.r i.invariant.fed_so_far
-          c.is_wanted.result (c.is_wanted.ensures i.left_bytes i.left_counts) c.if-is_wanted-l.true
-          k.result k.new.bytes k.new.counts (rw (rest a.left.now i.l) at k.ensures.counts_after)
-          c.settled-both.result (c.settled-both.ensures k.new.counts i.right_counts);
-      left_eleven = k.ensures.counts_len;
-      right_eleven = i.invariant.right_eleven;
-    }
 
 pub overflow_add-r : goal.overflow_add-r
 overflow_add-r c =
-    let i = c.loop-l in
-    let a = c.args in
-    let k = c.read-took-then-is_wanted-r in
-    let t = right_taken (comparing_of a.self) a.left.now a.right.now i.both i.left_bytes i.right_bytes i.left_counts i.right_counts i.l i.r i.invariant.fed_so_far
-    c.is_wanted.result (c.is_wanted.ensures i.left_bytes i.left_counts) c.if-is_wanted-l.false
-    c.is_wanted-else-is_wanted-l.result (c.is_wanted-else-is_wanted-l.ensures i.right_bytes i.right_counts) c.if-is_wanted-r.true
-    k.result k.new.bytes k.new.counts (rw (rest a.right.now i.r) at k.ensures.counts_after) in
-    let h : i.r + k.result.taken ≤ length a.right.now = omega (arith, t.1, i.invariant.fed_so_far.right_within) in
+    let i = c.loop-self in
+    let a = c.args.left.now in
+    let b = c.args.right.now in
+    let k = c.read-n-then-r-right in
+    let n = cannot (log_in i.self.left) a i.l c.is_wanted.ensures c.else-is_wanted.either in
+    let t = right_taken (comparing_of c.args.self.now) a b i.self i.l i.r i.invariant n (sym c.is_wanted-else-is_wanted.ensures ∙ c.if-is_wanted-2.true) c.if-r-right.true
+    k.new.self k.result (rw (rest b i.r) at k.ensures) in
+    let h : i.r + k.result ≤ length b = omega (arith, t.1, i.invariant.right_within) in
     search rules
 
-pub loop-l-smaller : goal.loop-l-smaller
-loop-l-smaller c =
-    let i = c.loop-l in
-    let a = c.args in
-    let k = c.read-took-then-is_wanted-r in
-    let t = right_taken (comparing_of a.self) a.left.now a.right.now i.both i.left_bytes i.right_bytes i.left_counts i.right_counts i.l i.r i.invariant.fed_so_far
-    c.is_wanted.result (c.is_wanted.ensures i.left_bytes i.left_counts) c.if-is_wanted-l.false
-    c.is_wanted-else-is_wanted-l.result (c.is_wanted-else-is_wanted-l.ensures i.right_bytes i.right_counts) c.if-is_wanted-r.true
-    k.result k.new.bytes k.new.counts (rw (rest a.right.now i.r) at k.ensures.counts_after) in
-    omega (arith, t.0, t.1)
+pub returns-else-is_wanted-2-clause-result_value : goal.returns-else-is_wanted-2-clause-result_value
+returns-else-is_wanted-2-clause-result_value c =
+    let i = c.loop-self in
+    let a = c.args.left.now in
+    let b = c.args.right.now in
+    ends (comparing_of c.args.self.now) a b i.self i.l i.r i.invariant
+    (cannot (log_in i.self.left) a i.l c.is_wanted.ensures c.else-is_wanted.either)
+    (cannot (log_in i.self.right) b i.r c.is_wanted-else-is_wanted.ensures c.else-is_wanted-2.either)
 
-pub loop-l-preserved : goal.loop-l-preserved
-loop-l-preserved c =
-    let i = c.loop-l in
-    let a = c.args in
-    let k = c.read-took-then-is_wanted-r in
-    let d = c.settled-both-then-is_wanted-r in
-    record {
-      fed_so_far = right_turn (comparing_of a.self) a.left.now a.right.now i.both i.left_bytes i.right_bytes i.left_counts i.right_counts i.l i.r i.invariant.fed_so_far
-          c.is_wanted.result (c.is_wanted.ensures i.left_bytes i.left_counts) c.if-is_wanted-l.false
-          c.is_wanted-else-is_wanted-l.result (c.is_wanted-else-is_wanted-l.ensures i.right_bytes i.right_counts) c.if-is_wanted-r.true
-          k.result k.new.bytes k.new.counts (rw (rest a.right.now i.r) at k.ensures.counts_after)
-          d.result (d.ensures i.left_counts k.new.counts);
-      left_eleven = i.invariant.left_eleven;
-      right_eleven = k.ensures.counts_len;
-    }
+pub loop-self-smaller : goal.loop-self-smaller
+loop-self-smaller c =
+    let i = c.loop-self in
+    let a = c.args.left.now in
+    let b = c.args.right.now in
+    elim c.if-is_wanted.branch [
+      | then-is_wanted+then-l-left w ↦
+          let k = w.read-n in
+          let t = left_taken (comparing_of c.args.self.now) a b i.self i.l i.r i.invariant (sym c.is_wanted.ensures ∙ w.if-is_wanted.true) w.if-l-left.true
+          k.new.self k.result (rw (rest a i.l) at k.ensures) in
+          rw (w.l-is, w.r-is) (omega (arith, t.0, t.1))
+      | else-is_wanted+then-is_wanted-2+then-r-right w ↦
+          let k = w.read-n-then-r-right in
+          let n = cannot (log_in i.self.left) a i.l c.is_wanted.ensures w.else-is_wanted.either in
+          let t = right_taken (comparing_of c.args.self.now) a b i.self i.l i.r i.invariant n (sym w.is_wanted-else-is_wanted.ensures ∙ w.if-is_wanted-2.true) w.if-r-right.true
+          k.new.self k.result (rw (rest b i.r) at k.ensures) in
+          rw (w.l-is, w.r-is) (omega (arith, t.0, t.1))
+    ]
 
-pub returns-else-is_wanted-r-clause-result_value : goal.returns-else-is_wanted-r-clause-result_value
-returns-else-is_wanted-r-clause-result_value c =
-    let i = c.loop-l in
-    let a = c.args in
-    ends (comparing_of a.self) a.left.now a.right.now i.both i.left_bytes i.right_bytes i.left_counts i.right_counts i.l i.r i.invariant.fed_so_far
-    c.is_wanted.result (c.is_wanted.ensures i.left_bytes i.left_counts) c.if-is_wanted-l.false
-    c.is_wanted-else-is_wanted-l.result (c.is_wanted-else-is_wanted-l.ensures i.right_bytes i.right_counts) c.if-is_wanted-r.false
+pub loop-self-preserved : goal.loop-self-preserved
+loop-self-preserved c =
+    let i = c.loop-self in
+    let a = c.args.left.now in
+    let b = c.args.right.now in
+    elim c.if-is_wanted.branch [
+      | then-is_wanted+then-l-left w ↦
+          let k = w.read-n in
+          rw (w.l-is, w.r-is)
+          (left_turn (comparing_of c.args.self.now) a b i.self i.l i.r i.invariant (sym c.is_wanted.ensures ∙ w.if-is_wanted.true) w.if-l-left.true
+          k.new.self k.result (rw (rest a i.l) at k.ensures) c.settle.new.self (rw w.self-is at c.settle.ensures))
+      | else-is_wanted+then-is_wanted-2+then-r-right w ↦
+          let k = w.read-n-then-r-right in
+          let n = cannot (log_in i.self.left) a i.l c.is_wanted.ensures w.else-is_wanted.either in
+          rw (w.l-is, w.r-is)
+          (right_turn (comparing_of c.args.self.now) a b i.self i.l i.r i.invariant n (sym w.is_wanted-else-is_wanted.ensures ∙ w.if-is_wanted-2.true) w.if-r-right.true
+          k.new.self k.result (rw (rest b i.r) at k.ensures) c.settle.new.self (rw w.self-is at c.settle.ensures))
+    ]
