@@ -17,7 +17,7 @@ use settings::Settings;
 fn bits_of(mask: u16) -> u32
     ensures { result ≡ set_bits 16 mask }
 {
-    u16::count_ones(mask)
+    mask.count_ones()
 }
 
 // A mask of 1 to 4 bits among 0 to 14.
@@ -33,38 +33,39 @@ fn is_mask(mask: u16) -> bool
 fn is_version_1(settings: Settings) -> bool
     ensures { result ≡ is_version1 settings }
 {
-    ((settings.version == CEC_OP_CEC_VERSION_1_3A) | (settings.version == CEC_OP_CEC_VERSION_1_4))
-        & (settings.all_device_types == 0)
-        & (settings.rc_profile == 0)
-        & (settings.device_features == 0)
+    matches!(
+        settings.version,
+        CEC_OP_CEC_VERSION_1_3A | CEC_OP_CEC_VERSION_1_4
+    ) && settings.all_device_types == 0
+        && settings.rc_profile == 0
+        && settings.device_features == 0
 }
 
 // Version 6, the last two of its three bytes below 128.
 fn is_version_2(settings: Settings) -> bool
     ensures { result ≡ is_version2 settings }
 {
-    (settings.version == CEC_OP_CEC_VERSION_2_0)
-        & (settings.rc_profile < 128)
-        & (settings.device_features < 128)
+    settings.version == CEC_OP_CEC_VERSION_2_0
+        && settings.rc_profile < 128
+        && settings.device_features < 128
 }
 
-// Device type 0, 1, 3, 4, 5, 6 or 7.
 fn is_device_type(device_type: u8) -> bool
     ensures { result ≡ is_device_type device_type }
 {
-    (device_type <= 7) & (device_type != 2)
+    matches!(device_type, 0 | 1 | 3..=7)
 }
 
 // A physical address that is valid, a mask, a version with its bytes, a device type, a vendor id of 24 bits, a name of 1 to 14 bytes.
 fn is_settings(settings: Settings) -> bool
     ensures { result ≡ is_settings settings }
 {
-    (settings.physical_address != CEC_PHYS_ADDR_INVALID)
-        & is_mask(settings.mask)
-        & (is_version_1(settings) | is_version_2(settings))
-        & is_device_type(settings.device_type)
-        & (settings.vendor_id < 16777216)
-        & ((1 <= settings.name_length) & (settings.name_length <= 14))
+    settings.physical_address != CEC_PHYS_ADDR_INVALID
+        && is_mask(settings.mask)
+        && (is_version_1(settings) || is_version_2(settings))
+        && is_device_type(settings.device_type)
+        && settings.vendor_id < 1 << 24
+        && (1..=14).contains(&settings.name_length)
 }
 
 // The EBUSY test comes first.
@@ -79,25 +80,19 @@ fn configure_errno(parts: Parts, settings: Settings) -> u32
 }
 
 // The name, 0 past its length.
-fn kept_name(name: [u8; 14], length: u8) -> [u8; 14]
+fn kept_name(mut name: [u8; 14], length: u8) -> [u8; 14]
     ensures { result ≡ take length name ++ replicate (14 - length) 0 }
 {
-    let mut kept = name;
-    let mut i = length as usize;
-    while i < 14 {
-        kept[i] = 0;
-        i += 1;
-    }
-    kept
+    let length = (length as usize).min(14);
+    name[length..].fill(0);
+    name
 }
 
 // The settings as they are kept.
 fn kept_settings(mut settings: Settings) -> Settings
     ensures { result ≡ kept_settings settings }
 {
-    let name = settings.name;
-    let kept = kept_name(name, settings.name_length);
-    settings.name = kept;
+    settings.name = kept_name(settings.name, settings.name_length);
     settings
 }
 
