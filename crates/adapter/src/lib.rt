@@ -230,12 +230,7 @@ impl Adapter {
         ensures result_value { done_of result ≡ step (state_of self) (call_configure settings) }
         ensures value { result.errno ≢ 0 → result ≡ refused_call self result.errno }
     {
-        let configured = configure::configure(self.parts, settings);
-        let parts = configured.parts;
-        Done {
-            adapter: Adapter { parts: parts },
-            errno: configured.errno,
-        }
+        self.done(configure::configure(self.parts, settings))
     }
 
     pub fn unconfigure(self) -> Done
