@@ -98,12 +98,19 @@ impl Adapter {
         ensures result_value { opened_of result ≡ step (state_of self) (call_open privileged) }
         ensures value { result.errno ≢ 0 → result ≡ refused_open self result.errno }
     {
-        let opened = open::open(self.parts, privileged);
-        let parts = opened.parts;
-        Opened {
-            adapter: Adapter { parts: parts },
-            errno: opened.errno,
-            handle: opened.handle,
+        match open::open(self.parts, privileged) {
+            Ok(opened) => Opened {
+                adapter: Adapter {
+                    parts: opened.parts,
+                },
+                errno: 0,
+                handle: opened.handle,
+            },
+            Err(errno) => Opened {
+                adapter: self,
+                errno: u32::from(errno),
+                handle: 0,
+            },
         }
     }
 
@@ -118,25 +125,26 @@ impl Adapter {
         ensures result_value { done_of result ≡ step (state_of self) (call_mode handle mode) }
         ensures value { result.errno ≢ 0 → result ≡ refused_call self result.errno }
     {
-        let changed = set_mode::mode(self.parts, handle, mode);
-        let parts = changed.parts;
-        Done {
-            adapter: Adapter { parts: parts },
-            errno: changed.errno,
-        }
+        self.done(set_mode::mode(self.parts, handle, mode))
     }
 
     pub fn transmit(self, handle: u8, request: Request) -> Transmitted
         ensures result_value { transmitted_of result ≡ step (state_of self) (call_transmit handle (request_of request)) }
         ensures value { result.errno ≢ 0 → result ≡ refused_transmit self result.errno }
     {
-        let sent = transmit::transmit(self.parts, handle, request);
-        let parts = sent.parts;
-        Transmitted {
-            adapter: Adapter { parts: parts },
-            errno: sent.errno,
-            sequence: sent.sequence,
-            tx_status: sent.tx_status,
+        match transmit::transmit(self.parts, handle, request) {
+            Ok(sent) => Transmitted {
+                adapter: Adapter { parts: sent.parts },
+                errno: 0,
+                sequence: sent.sequence,
+                tx_status: sent.tx_status,
+            },
+            Err(errno) => Transmitted {
+                adapter: self,
+                errno: u32::from(errno),
+                sequence: 0,
+                tx_status: 0,
+            },
         }
     }
 
@@ -144,13 +152,19 @@ impl Adapter {
         ensures result_value { received_of result ≡ step (state_of self) (call_receive handle) }
         ensures value { result.errno ≢ 0 → result ≡ refused_receive self result.errno }
     {
-        let received = receive::receive(self.parts, handle);
-        let parts = received.parts;
-        let entry = received.entry;
-        Received {
-            adapter: Adapter { parts: parts },
-            errno: received.errno,
-            entry: entry,
+        match receive::receive(self.parts, handle) {
+            Ok(received) => Received {
+                adapter: Adapter {
+                    parts: received.parts,
+                },
+                errno: 0,
+                entry: received.entry,
+            },
+            Err(errno) => Received {
+                adapter: self,
+                errno: u32::from(errno),
+                entry: Entry::none(),
+            },
         }
     }
 
@@ -158,13 +172,19 @@ impl Adapter {
         ensures result_value { started_of result ≡ step (state_of self) call_bus_start }
         ensures value { result.errno ≢ 0 → result ≡ refused_bus_start self result.errno }
     {
-        let started = bus_start::bus_start(self.parts);
-        let parts = started.parts;
-        let message = started.message;
-        Started {
-            adapter: Adapter { parts: parts },
-            errno: started.errno,
-            message: message,
+        match bus_start::bus_start(self.parts) {
+            Ok(started) => Started {
+                adapter: Adapter {
+                    parts: started.parts,
+                },
+                errno: 0,
+                message: started.message,
+            },
+            Err(errno) => Started {
+                adapter: self,
+                errno: u32::from(errno),
+                message: Message::new(0, [0; 16]),
+            },
         }
     }
 
@@ -195,12 +215,7 @@ impl Adapter {
         ensures result_value { done_of result ≡ step (state_of self) (call_configure settings) }
         ensures value { result.errno ≢ 0 → result ≡ refused_call self result.errno }
     {
-        let configured = configure::configure(self.parts, settings);
-        let parts = configured.parts;
-        Done {
-            adapter: Adapter { parts: parts },
-            errno: configured.errno,
-        }
+        self.done(configure::configure(self.parts, settings))
     }
 
     pub fn unconfigure(self) -> Done

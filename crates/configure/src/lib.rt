@@ -1,16 +1,16 @@
 // Configure.
 #![tactic(auto)]
 
-ghost use Rattle.std.specs.Prelude.{◌-◌, ◌++◌, ◌≢◌, ◌≡◌, take, replicate};
+ghost use Rattle.std.specs.Prelude.{◌-◌, ◌++◌, ◌≡◌, take, replicate};
 ghost use Rattle.configure.specs.Mask.{set_bits};
-ghost use Rattle.parts.specs.Parts.{state_of, done_of};
+ghost use Rattle.parts.specs.Parts.{state_of, errno_of, parts_outcome};
 ghost use Rattle.rules.specs.Configure.{do_configure, configure_refusal, is_mask, is_version1, is_version2, is_device_type, is_settings, kept_settings};
 
 use constants::{
     CEC_OP_CEC_VERSION_1_3A, CEC_OP_CEC_VERSION_1_4, CEC_OP_CEC_VERSION_2_0, CEC_PHYS_ADDR_INVALID,
-    EBUSY, EINVAL,
+    Errno,
 };
-use parts::{Done, Parts, check};
+use parts::Parts;
 use settings::Settings;
 
 // How many bits are set, by the language's own count, which has no loop (document 02, W-204).
@@ -69,14 +69,17 @@ fn is_settings(settings: Settings) -> bool
 }
 
 // The EBUSY test comes first.
-fn configure_errno(parts: Parts, settings: Settings) -> u32
-    ensures { result ≡ configure_refusal (state_of parts) settings }
+#[tactic(auto, unfolding(rules::specs::Call::check))]
+fn check(parts: Parts, settings: Settings) -> Result<(), Errno>
+    ensures { errno_of result ≡ configure_refusal (state_of parts) settings }
 {
-    check(
-        parts.is_configured(),
-        EBUSY,
-        check(!is_settings(settings), EINVAL, 0),
-    )
+    if parts.is_configured() {
+        return Err(Errno::EBUSY);
+    }
+    if !is_settings(settings) {
+        return Err(Errno::EINVAL);
+    }
+    Ok(())
 }
 
 // The name, 0 past its length.
@@ -96,21 +99,12 @@ fn kept_settings(mut settings: Settings) -> Settings
     settings
 }
 
-pub fn configure(parts: Parts, settings: Settings) -> Done
-    ensures result_value { done_of result ≡ do_configure (state_of parts) settings }
-    ensures parts_value { result.errno ≢ 0 → result.parts ≡ parts }
+// The parts after it, or the refusal.
+pub fn configure(parts: Parts, settings: Settings) -> Result<Parts, Errno>
+    ensures { parts_outcome (state_of parts) result ≡ do_configure (state_of parts) settings }
 {
-    let errno = configure_errno(parts, settings);
-    if errno != 0 {
-        return Done {
-            parts: parts,
-            errno: errno,
-        };
-    }
+    check(parts, settings)?;
     let mut after = parts;
     after.settings = kept_settings(settings);
-    Done {
-        parts: after,
-        errno: 0,
-    }
+    Ok(after)
 }

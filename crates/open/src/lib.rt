@@ -1,58 +1,49 @@
 // Open.
 #![tactic(auto)]
 
-ghost use Rattle.std.specs.Prelude.{◌≢◌, ◌≡◌};
-ghost use Rattle.parts.specs.Parts.{state_of};
-ghost use Rattle.open.specs.Answer.{opened_of, refused_open};
+ghost use Rattle.std.specs.Prelude.{◌≡◌};
+ghost use Rattle.parts.specs.Parts.{state_of, errno_of};
+ghost use Rattle.open.specs.Answer.{opened_of};
 ghost use Rattle.rules.specs.Open.{do_open, open_refusal};
 
-use constants::{CEC_MODE_INITIATOR, EMFILE};
+use constants::{CEC_MODE_INITIATOR, Errno};
 use handle::Handle;
-use parts::{Parts, check};
+use parts::Parts;
 
-// The parts after the call, its errno, 0 for success, and the handle.
+// The parts after the call, and the handle.
 #[repr(C)]
 #[derive(Clone, Copy)]
 pub struct Opened {
     pub parts: Parts,
-    pub errno: u32,
     pub handle: u8,
 }
 
-fn open_errno(parts: Parts) -> u32
-    ensures { result ≡ open_refusal (state_of parts) }
+#[tactic(auto, unfolding(rules::specs::Call::check))]
+fn check(parts: Parts) -> Result<(), Errno>
+    ensures { errno_of result ≡ open_refusal (state_of parts) }
 {
-    check(
-        parts.handles.lowest_closed() == parts.handles.count(),
-        EMFILE,
-        0,
-    )
+    if parts.handles.lowest_closed() == parts.handles.count() {
+        return Err(Errno::EMFILE);
+    }
+    Ok(())
 }
 
-pub fn open(parts: Parts, privileged: bool) -> Opened
-    ensures result_value { opened_of result ≡ do_open (state_of parts) privileged }
-    ensures value { result.errno ≢ 0 → result ≡ refused_open parts result.errno }
+// The parts after it and the handle, or the refusal.
+pub fn open(parts: Parts, privileged: bool) -> Result<Opened, Errno>
+    ensures { opened_of (state_of parts) result ≡ do_open (state_of parts) privileged }
 {
-    let errno = open_errno(parts);
-    if errno != 0 {
-        return Opened {
-            parts: parts,
-            errno: errno,
-            handle: 0,
-        };
-    }
+    check(parts)?;
     let handle = parts.handles.lowest_closed();
     let opened = Handle {
         is_open: true,
-        privileged: privileged,
+        privileged,
         mode: CEC_MODE_INITIATOR,
         lost: 0,
     };
     let mut after = parts;
     after.handles = parts.handles.with(handle, opened);
-    Opened {
+    Ok(Opened {
         parts: after,
-        errno: 0,
-        handle: handle,
-    }
+        handle,
+    })
 }

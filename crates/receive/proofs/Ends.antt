@@ -8,16 +8,12 @@ use lib.Dec.{eqb}
 use lib.ListN.{get_or, length}
 use borrow.Author.Tests.{eqb-false}
 use Rattle.constants.specs.Kernel.{EAGAIN, EBADF}
-use Rattle.entry.specs.Entry.{no_entry}
-use Rattle.entry.specs.declared.Entry.{Entry}
 use Rattle.inbox.proofs.Arrays.{counted}
 use Rattle.inbox.specs.Inboxes.{inbox_of}
 use Rattle.lists.specs.Blocks.{length_parts, part_within}
 use Rattle.parts.proofs.Arrays.{LongParts}
 use Rattle.parts.specs.Parts.{state_of}
 use Rattle.parts.specs.declared.Parts.{Parts}
-use Rattle.receive.specs.Answer.{refused_receive}
-use Rattle.receive.specs.declared.Received.{Received}
 use Rattle.rules.proofs.Checks.{passed}
 use Rattle.rules.specs.Handles.{is_open}
 use Rattle.rules.specs.Receive.{receive_refusal}
@@ -36,7 +32,3 @@ pub taken_handle : (p : Parts) (h : ℕ) → LongParts p → receive_refusal (st
 taken_handle p h long q =
     let some = some_entry (state_of p) h q in
     (omega (arith, part_within (state_of p).inboxes h some, length_parts 16 p.counts p.entries, long.counts), omega (arith, counted p.entries p.counts long h, some))
-
--- a receive that is refused leaves the parts, and gives no entry
-pub refused_answer : (p q : Parts) (errno : ℕ) (e : Entry) → q ≡ p → e ≡ no_entry → ◌≡◌ {A = Received} (record { parts = q; errno = errno; entry = e }) (refused_receive p errno)
-refused_answer p q errno e same none = rw (same, none)

@@ -1,17 +1,17 @@
 // Another mode for a handle: the checks in their order, and the change.
 #![tactic(auto)]
 
-ghost use Rattle.std.specs.Prelude.{◌≢◌, ◌≡◌};
-ghost use Rattle.parts.specs.Parts.{state_of, done_of};
+ghost use Rattle.std.specs.Prelude.{◌≡◌};
+ghost use Rattle.parts.specs.Parts.{state_of, errno_of, parts_outcome};
 ghost use Rattle.rules.specs.Mode.{do_mode, mode_refusal, is_mode, is_monitor_initiator, is_unable_follower, is_monitor_all_unable, is_mode_invalid, is_role_held};
 
-use constants::{CEC_MODE_MONITOR_ALL, CEC_MODE_NO_FOLLOWER, EBADF, EBUSY, EINVAL, EPERM};
+use constants::{CEC_MODE_MONITOR_ALL, CEC_MODE_NO_FOLLOWER, Errno};
 use handle::Handle;
 use handles::mode::{
     follower_part, initiator_part, is_exclusive_follower, is_exclusive_initiator, is_follower,
     is_monitor,
 };
-use parts::{Done, Parts};
+use parts::Parts;
 
 fn is_mode(mode: u32) -> bool
     ensures { result ≡ is_mode mode }
@@ -55,41 +55,33 @@ fn is_role_held(parts: Parts, handle: u8, mode: u32) -> bool
         | is_exclusive_follower(mode) & others.exclusive_follower
 }
 
-fn mode_errno(parts: Parts, handle: u8, mode: u32) -> u32
-    ensures { result ≡ mode_refusal (state_of parts) handle mode }
+#[tactic(auto, unfolding(rules::specs::Call::check))]
+fn check(parts: Parts, handle: u8, mode: u32) -> Result<(), Errno>
+    ensures { errno_of result ≡ mode_refusal (state_of parts) handle mode }
 {
     if !parts.is_open(handle) {
-        return EBADF;
+        return Err(Errno::EBADF);
     }
     if is_mode_invalid(parts, mode) {
-        return EINVAL;
+        return Err(Errno::EINVAL);
     }
     if is_monitor(mode) & !parts.handle_at(handle).privileged {
-        return EPERM;
+        return Err(Errno::EPERM);
     }
     if is_role_held(parts, handle, mode) {
-        return EBUSY;
+        return Err(Errno::EBUSY);
     }
-    0
+    Ok(())
 }
 
-pub fn mode(parts: Parts, handle: u8, mode: u32) -> Done
-    ensures result_value { done_of result ≡ do_mode (state_of parts) handle mode }
-    ensures parts_value { result.errno ≢ 0 → result.parts ≡ parts }
+// The parts after it, or the refusal.
+pub fn mode(parts: Parts, handle: u8, mode: u32) -> Result<Parts, Errno>
+    ensures { parts_outcome (state_of parts) result ≡ do_mode (state_of parts) handle mode }
 {
-    let errno = mode_errno(parts, handle, mode);
-    if errno != 0 {
-        return Done {
-            parts: parts,
-            errno: errno,
-        };
-    }
+    check(parts, handle, mode)?;
     let mut now = parts.handle_at(handle);
     now.mode = mode;
     let mut after = parts;
     after.handles = parts.handles.with(handle, now);
-    Done {
-        parts: after,
-        errno: 0,
-    }
+    Ok(after)
 }

@@ -1,27 +1,26 @@
 // A message to send: the checks in their order, and the queue.
 #![tactic(auto)]
 
-ghost use Rattle.std.specs.Prelude.{◌≤◌, ◌≢◌, ◌≡◌};
-ghost use Rattle.parts.specs.Parts.{state_of};
+ghost use Rattle.std.specs.Prelude.{◌≤◌, ◌≡◌};
+ghost use Rattle.parts.specs.Parts.{state_of, errno_of};
 ghost use Rattle.request.specs.Request.{request_of};
 ghost use Rattle.rules.specs.Transmit.{is_misaddressed, is_self_poll, is_full, sender_refusal, request_refusal, transmit_refusal, transmission_of, new_room, do_transmit};
-ghost use Rattle.transmit.specs.Transmitted.{transmitted_of, refused_transmit};
+ghost use Rattle.transmit.specs.Transmitted.{transmitted_of};
 
 use constants::{
     CEC_LOG_ADDR_UNREGISTERED, CEC_MODE_NO_INITIATOR, CEC_MSG_FL_REPLY_TO_FOLLOWERS,
-    CEC_TX_STATUS_NACK, EBADF, EBUSY, EINVAL, ENONET, ENOTTY, EPERM,
+    CEC_TX_STATUS_NACK, Errno,
 };
 use handles::mode::{initiator_part, is_exclusive_follower};
 use parts::Parts;
 use request::Request;
 use transmission::Transmission;
 
-// The parts after the call, its errno, 0 for success, the sequence number and tx_status.
+// The parts after the call, the sequence number and tx_status.
 #[repr(C)]
 #[derive(Clone, Copy)]
 pub struct Transmitted {
     pub parts: Parts,
-    pub errno: u32,
     pub sequence: u32,
     pub tx_status: u8,
 }
@@ -58,72 +57,66 @@ fn is_full(parts: Parts, handle: u8, request: Request) -> bool
 }
 
 // Checks 1 and 2: whether the handle may transmit.
-fn sender_errno(parts: Parts, handle: u8) -> u32
-    ensures { result ≡ sender_refusal (state_of parts) handle 0 }
+fn sender_check(parts: Parts, handle: u8) -> Result<(), Errno>
+    ensures { errno_of result ≡ sender_refusal (state_of parts) handle 0 }
 {
     let handles = parts.handles;
     let own = handles.at(handle);
     if !own.is_open {
-        return EBADF;
+        return Err(Errno::EBADF);
     }
     if !parts.can_transmit {
-        return ENOTTY;
+        return Err(Errno::ENOTTY);
     }
     if initiator_part(own.mode) == CEC_MODE_NO_INITIATOR {
-        return EPERM;
+        return Err(Errno::EPERM);
     }
     if handles.roles_of_others(handle).exclusive_initiator & !is_exclusive_follower(own.mode) {
-        return EBUSY;
+        return Err(Errno::EBUSY);
     }
-    0
+    Ok(())
 }
 
 // Checks 3 to 6: whether the request may be sent.
-fn request_errno(parts: Parts, request: Request) -> u32
-    ensures { result ≡ request_refusal (state_of parts) (request_of request) 0 }
+fn request_check(parts: Parts, request: Request) -> Result<(), Errno>
+    ensures { errno_of result ≡ request_refusal (state_of parts) (request_of request) 0 }
 {
     if request.is_malformed() {
-        return EINVAL;
+        return Err(Errno::EINVAL);
     }
     if request.is_poll_invalid() {
-        return EINVAL;
+        return Err(Errno::EINVAL);
     }
     let configured = parts.is_configured();
     if !configured & !request.is_wake_up() {
-        return ENONET;
+        return Err(Errno::ENONET);
     }
     if !configured & request.wants_reply() {
-        return EINVAL;
+        return Err(Errno::EINVAL);
     }
     if configured & is_misaddressed(parts, request) {
-        return EINVAL;
+        return Err(Errno::EINVAL);
     }
-    0
+    Ok(())
 }
 
 // The checks in their order. A poll to an own address, 7, needs no room, 8.
-fn transmit_errno(parts: Parts, handle: u8, request: Request) -> u32
-    ensures { result ≡ transmit_refusal (state_of parts) handle (request_of request) }
+fn check(parts: Parts, handle: u8, request: Request) -> Result<(), Errno>
+    ensures { errno_of result ≡ transmit_refusal (state_of parts) handle (request_of request) }
 {
-    let sender = sender_errno(parts, handle);
-    if sender != 0 {
-        return sender;
-    }
-    let form = request_errno(parts, request);
-    if form != 0 {
-        return form;
-    }
+    sender_check(parts, handle)?;
+    request_check(parts, request)?;
     if !is_self_poll(parts, request) & is_full(parts, handle, request) {
-        return EBUSY;
+        return Err(Errno::EBUSY);
     }
-    0
+    Ok(())
 }
 
 fn transmission(sequence: u32, handle: u8, request: Request) -> Transmission
     ensures { result ≡ transmission_of sequence handle (request_of request) }
 {
     Transmission {
-        sequence: sequence,
+        sequence,
         owner: handle,
         wants_reply: request.wants_reply(),
         reply: request.reply,
@@ -133,26 +126,24 @@ fn transmission(sequence: u32, handle: u8, request: Request) -> Transmission
     }
 }
 
-pub fn transmit(mut parts: Parts, handle: u8, request: Request) -> Transmitted
-    ensures result_value { transmitted_of result ≡ do_transmit (state_of parts) handle (request_of request) }
-    ensures value { result.errno ≢ 0 → result ≡ refused_transmit parts result.errno }
+// The parts after it, the number and tx_status, or the refusal.
+pub fn transmit(mut parts: Parts, handle: u8, request: Request) -> Result<Transmitted, Errno>
+    ensures { transmitted_of (state_of parts) result ≡ do_transmit (state_of parts) handle (request_of request) }
 {
-    let errno = transmit_errno(parts, handle, request);
-    let mut sequence = 0;
-    let mut tx_status = 0;
-    if errno == 0 {
-        sequence = traffic::next_sequence(parts.queue, parts.wire, parts.waits, parts.last);
-        parts.last = sequence;
-        if is_self_poll(parts, request) {
-            tx_status = CEC_TX_STATUS_NACK;
-        } else {
-            parts.queue = parts.queue.put(transmission(sequence, handle, request));
-        }
+    check(parts, handle, request)?;
+    let sequence = traffic::next_sequence(parts.queue, parts.wire, parts.waits, parts.last);
+    parts.last = sequence;
+    if is_self_poll(parts, request) {
+        return Ok(Transmitted {
+            parts,
+            sequence,
+            tx_status: CEC_TX_STATUS_NACK,
+        });
     }
-    Transmitted {
-        parts: parts,
-        errno: errno,
-        sequence: sequence,
-        tx_status: tx_status,
-    }
+    parts.queue = parts.queue.put(transmission(sequence, handle, request));
+    Ok(Transmitted {
+        parts,
+        sequence,
+        tx_status: 0,
+    })
 }

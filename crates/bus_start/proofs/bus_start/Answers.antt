@@ -1,14 +1,15 @@
-use Rattle.parts.proofs.Outcomes.{refused_outcome, taken_outcome}
+use Rattle.std.proofs.lemmas.Result.{err_from_is_err_and}
+use Rattle.parts.proofs.Outcomes.{accepted_call, refused_call}
 use Rattle.parts.specs.Parts.{state_of}
 use Rattle.rules.specs.BusStart.{do_bus_start}
 use Rattle.bus_start.proofs.bus_start.Goals as goal
 
-pub returns-then-errno-eq0-clause-result_value : goal.returns-then-errno-eq0-clause-result_value
+pub returns-in_err-check : goal.returns-in_err-check
 unfolding do_bus_start
-returns-then-errno-eq0-clause-result_value c =
-    taken_outcome (state_of c.args.parts) _ _ _ _ _ c.bus_start_errno-errno.ensures c.if-errno-eq0.true
-    (rw (c.put-parts.ensures, c.without_head-parts.ensures, c.head-head.ensures))
+returns-in_err-check c = refused_call _ _ _ _ _ _ _ c.in_err-check.was c.check.ensures (err_from_is_err_and _ c.from_residual.ensures.1)
 
-pub returns-else-errno-eq0-clause-result_value : goal.returns-else-errno-eq0-clause-result_value
+pub returns : goal.returns
 unfolding do_bus_start
-returns-else-errno-eq0-clause-result_value c = refused_outcome (state_of c.args.parts) _ _ _ _ c.bus_start_errno-errno.ensures c.if-errno-eq0.false
+returns c =
+    rw (c.put-parts.ensures, c.without_head-parts.ensures, c.head-head.ensures)
+    (accepted_call (state_of c.args.parts) _ _ _ _ c.in_ok-check.was c.check.ensures)

@@ -1,14 +1,15 @@
-use Rattle.parts.proofs.Outcomes.{refused_outcome, done_outcome}
+use Rattle.std.proofs.lemmas.Result.{err_from_is_err_and}
+use Rattle.parts.proofs.Outcomes.{accepted_call, refused_call}
 use Rattle.parts.specs.Parts.{state_of}
 use Rattle.rules.specs.Configure.{do_configure}
 use Rattle.configure.proofs.configure.Goals as goal
 
-pub returns-then-errno-ne0-clause-result_value : goal.returns-then-errno-ne0-clause-result_value
+pub returns-in_err-check : goal.returns-in_err-check
 unfolding do_configure
-returns-then-errno-ne0-clause-result_value c = refused_outcome (state_of c.args.parts) _ _ _ _ c.configure_errno-errno.ensures c.if-errno-ne0.true
+returns-in_err-check c = refused_call _ _ _ _ _ _ _ c.in_err-check.was c.check.ensures (err_from_is_err_and _ c.from_residual.ensures.1)
 
-pub returns-clause-result_value : goal.returns-clause-result_value
+pub returns : goal.returns
 unfolding do_configure
-returns-clause-result_value c =
+returns c =
     rw c.kept_settings-after.ensures
-    (done_outcome (state_of c.args.parts) _ _ _ c.configure_errno-errno.ensures c.if-errno-ne0.false)
+    (accepted_call (state_of c.args.parts) _ _ _ _ c.in_ok-check.was c.check.ensures)

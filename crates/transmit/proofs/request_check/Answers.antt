@@ -1,6 +1,6 @@
 use Rattle.std.proofs.Common.{refl}
 use Rattle.rules.proofs.Checks.{stopped, onward}
-use Rattle.transmit.proofs.request_errno.Goals as goal
+use Rattle.transmit.proofs.request_check.Goals as goal
 
 pub returns-then-is_malformed : goal.returns-then-is_malformed
 returns-then-is_malformed c = stopped _ _ _ (rw c.is_malformed.ensures at c.if-is_malformed.true)

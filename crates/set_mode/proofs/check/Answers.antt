@@ -1,6 +1,6 @@
 use Rattle.std.proofs.Common.{refl}
 use Rattle.rules.proofs.Checks.{stopped, onward}
-use Rattle.set_mode.proofs.mode_errno.Goals as goal
+use Rattle.set_mode.proofs.check.Goals as goal
 
 pub returns-then-not-is_open : goal.returns-then-not-is_open
 returns-then-not-is_open c = let o = rw c.is_open.ensures at c.if-not-is_open.true in stopped _ _ _ (rw o refl)

@@ -1,6 +1,6 @@
 use Rattle.std.proofs.Common.{refl, ne_eqb}
 use Rattle.rules.proofs.Checks.{stopped, onward}
-use Rattle.transmit.proofs.sender_errno.Goals as goal
+use Rattle.transmit.proofs.sender_check.Goals as goal
 
 pub returns-then-not-own : goal.returns-then-not-own
 returns-then-not-own c = let o = rw c.at-own.ensures at c.if-not-own.true in stopped _ _ _ (rw o refl)
