@@ -34,6 +34,10 @@ numbered EMFILE = λ q. omega (arith, q)
 numbered ENOTTY = λ q. omega (arith, q)
 numbered ENONET = λ q. omega (arith, q)
 
+-- checks that are passed refuse nothing
+pub passed_check : (checked : Result Unit Errno) (n : ℕ) (u : Unit) → checked ≡ Ok u → errno_of checked ≡ n → n ≡ 0
+passed_check checked n u q z = sym z ∙ rw q refl
+
 -- a call whose checks are passed
 pub accepted_call : (s : State) (o : Outcome) (checked : Result Unit Errno) (n : ℕ) (u : Unit) → checked ≡ Ok u → errno_of checked ≡ n → o ≡ unless n s o
 accepted_call s o checked n u q z = sym (unless_done s o n (sym z ∙ rw q refl))

@@ -8,7 +8,6 @@ use Rattle.handles.specs.Roles.{handles_of}
 use Rattle.handles.specs.declared.Handles.{Handles}
 use Rattle.inbox.specs.Inboxes.{inboxes_of}
 use Rattle.inbox.specs.declared.Inboxes.{Inboxes}
-use Rattle.parts.specs.declared.Done.{Done}
 use Rattle.parts.specs.declared.Parts.{Parts}
 use Rattle.queue.specs.Queue.{queue_of}
 use Rattle.rules.specs.Call.{Answer, Outcome, finish, refused, done}
@@ -56,9 +55,6 @@ with_changed p handles counts entries active clock = record {
 -- an answer that gives nothing more: the errno, or success
 abbrev pub or_refused : ℕ → Answer → Answer
 or_refused errno a = cond (eqb errno 0) a (refused errno)
-
-abbrev pub done_of : Done → Outcome
-done_of r = finish (or_refused r.errno done) (state_of r.parts)
 
 -- the errno of checks, 0 where they are passed
 abbrev pub errno_of : Result Unit Errno → ℕ

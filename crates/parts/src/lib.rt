@@ -3,14 +3,13 @@
 
 ghost use Rattle.std.specs.Prelude.{◌≤◌, ◌≡◌, length};
 ghost use Rattle.inbox.specs.Inboxes.{inboxes_of, inbox_of};
-ghost use Rattle.rules.specs.Call.{check};
 ghost use Rattle.rules.specs.Clock.{clock_refusal};
 ghost use Rattle.rules.specs.Deliver.{deliver};
 ghost use Rattle.rules.specs.Handles.{handle_at, is_open, is_configured, is_own};
 ghost use Rattle.rules.specs.State.{fresh, no_settings, none_noted, with_inboxes};
 ghost use Rattle.parts.specs.Parts.{boxes_of, state_of, errno_of};
 
-use constants::{CEC_LOG_ADDR_UNREGISTERED, CEC_PHYS_ADDR_INVALID, EINVAL, Errno};
+use constants::{CEC_LOG_ADDR_UNREGISTERED, CEC_PHYS_ADDR_INVALID, Errno};
 use entry::Entry;
 use handle::Handle;
 use handles::Handles;
@@ -40,22 +39,6 @@ pub struct Parts {
     pub entries: [Entry; 128],
 }
 
-// The parts after a call that gives nothing more, and its errno, 0 for success.
-#[repr(C)]
-#[derive(Clone, Copy)]
-pub struct Done {
-    pub parts: Parts,
-    pub errno: u32,
-}
-
-// One check of several, in their order: its number, or what the later ones say.
-#[tactic(auto, unfolding(rules::specs::Call::check))]
-pub fn check(refused: bool, errno: u32, later: u32) -> u32
-    ensures { result ≡ check refused errno later }
-{
-    if refused { errno } else { later }
-}
-
 // The last check of a bus result and of a message: a time may not be before that of the last one.
 #[tactic(auto, unfolding(rules::specs::Call::check))]
 pub fn check_time(clock: u64, ts: u64) -> Result<(), Errno>
@@ -65,13 +48,6 @@ pub fn check_time(clock: u64, ts: u64) -> Result<(), Errno>
         return Err(Errno::EINVAL);
     }
     Ok(())
-}
-
-// The same as a number.
-pub fn clock_errno(clock: u64, ts: u64) -> u32
-    ensures { result ≡ clock_refusal clock ts }
-{
-    check(ts < clock, EINVAL, 0)
 }
 
 // The settings as unconfigure leaves them.

@@ -2,14 +2,15 @@
 #![tactic(auto)]
 
 ghost use Rattle.std.specs.Prelude.{false, ◌≢◌, ◌≡◌};
-ghost use Rattle.parts.specs.Parts.{state_of};
+ghost use Rattle.parts.specs.Parts.{state_of, errno_of, outcome_of};
 ghost use Rattle.rows.specs.Noted.{noted_of, refused_lookup};
+ghost use Rattle.rules.specs.Call.{Answer, finish};
 ghost use Rattle.rules.specs.Listing.{row_of};
 ghost use Rattle.rules.specs.Lookup.{do_lookup, lookup_refusal};
 
-use constants::EINVAL;
+use constants::Errno;
 use handle::Row;
-use parts::{Parts, check};
+use parts::Parts;
 
 // The errno of the lookup, 0 for success, and the noted address.
 #[repr(C)]
@@ -47,35 +48,44 @@ pub fn row_of(parts: Parts, handle: u8) -> Row
         number: handle,
         is_open: true,
         mode: shown.mode,
-        entries: entries,
-        owed: owed,
+        entries,
+        owed,
         lost: shown.lost,
     }
 }
 
 // "The lookup of a noted address takes 0 to 14, else EINVAL"
-fn lookup_errno(address: u8) -> u32
-    ensures { result ≡ lookup_refusal address }
+#[tactic(auto, unfolding(rules::specs::Call::check))]
+fn check(address: u8) -> Result<(), Errno>
+    ensures { errno_of result ≡ lookup_refusal address }
 {
-    check(14 < address, EINVAL, 0)
+    if 14 < address {
+        return Err(Errno::EINVAL);
+    }
+    Ok(())
 }
 
-// The physical address that is noted for a logical one.
+// The physical address that is noted for a logical one, or the refusal.
+fn lookup(parts: Parts, address: u8) -> Result<u16, Errno>
+    ensures { outcome_of (λ a. finish (Answer.address a) (state_of parts)) (state_of parts) result ≡ do_lookup (state_of parts) address }
+{
+    check(address)?;
+    Ok(parts.noted[address as usize])
+}
+
+// The same as C takes it.
 pub fn noted_address(parts: Parts, address: u8) -> Noted
     ensures result_value { noted_of (state_of parts) result ≡ do_lookup (state_of parts) address }
     ensures value { result.errno ≢ 0 → result ≡ refused_lookup result.errno }
 {
-    let errno = lookup_errno(address);
-    if errno != 0 {
-        return Noted {
-            errno: errno,
+    match lookup(parts, address) {
+        Ok(noted) => Noted {
+            errno: 0,
+            address: noted,
+        },
+        Err(errno) => Noted {
+            errno: u32::from(errno),
             address: 0,
-        };
-    }
-    let a = address as usize;
-    let noted = parts.noted[a];
-    Noted {
-        errno: 0,
-        address: noted,
+        },
     }
 }
