@@ -35,24 +35,10 @@ pub fn listing(adapter: Adapter, rows: &mut [Row]) -> u32
     if rows.len() < 8 {
         return EINVAL;
     }
-    let mut i = 0;
-    while i < 8 {
+    for i in 0..8 {
         rows[i] = row_at(adapter, i);
-        i += 1;
     }
     0
-}
-
-// The same of rows by value.
-fn listed_in(adapter: Adapter, rows: [Row; 8]) -> Listed
-    ensures { Lists (state_of adapter) rows result.errno result.rows }
-{
-    let mut filled = rows;
-    let errno = listing(adapter, &mut filled);
-    Listed {
-        errno: errno,
-        rows: filled,
-    }
 }
 
 // The listing of exactly eight rows, for a program that lends none: it is never refused.
@@ -60,10 +46,7 @@ pub fn listed_rows(adapter: Adapter) -> Listed
     ensures { (result.errno ≡ 0) × (result.rows ≡ map (row_of (state_of adapter)) handle_numbers) }
 {
     let lent = [closed_row(0); 8];
-    let listed = listed_in(adapter, lent);
-    let rows = listed.rows;
-    Listed {
-        errno: listed.errno,
-        rows: rows,
-    }
+    let mut rows = lent;
+    let errno = listing(adapter, &mut rows);
+    Listed { errno, rows }
 }

@@ -12,13 +12,12 @@ loop-i-preserved c =
     let a = c.args.adapter in
     let lent = c.args.rows.now in
     let row : c.row_at.result ≡ row_in a l.i = c.row_at.ensures in (
-      omega arith,
-      l.invariant.1,
-      rw (l.invariant.2, row) (written_next a l.i lent (omega (arith, l.invariant.1))),
+      l.invariant.0,
+      rw (l.invariant.1, row) (written_next a l.i lent (omega (arith, l.invariant.0))),
     )
 
 pub returns : goal.returns
 returns c =
     let l = c.loop-i in
     let end : l.i ≡ 8 = omega arith in
-    rw (l.invariant.2, end) (full_says c.args.adapter c.args.rows.now l.invariant.1)
+    rw (l.invariant.1, end) (full_says c.args.adapter c.args.rows.now l.invariant.0)

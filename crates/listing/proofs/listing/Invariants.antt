@@ -3,7 +3,4 @@ use Rattle.listing.proofs.Written.{written}
 use Rattle.listing.proofs.listing.Given as goal
 
 abbrev pub invariant-loop-i : goal.invariant-loop-i
-invariant-loop-i l = (l.i ≤ 8) × (8 ≤ length l.initial.rows) × (l.rows ≡ written l.adapter l.i l.initial.rows)
-
-abbrev pub decreases-loop-i : goal.decreases-loop-i
-decreases-loop-i l = 8 - l.i
+invariant-loop-i l = (8 ≤ length l.initial.rows) × (l.rows ≡ written l.adapter l.i l.initial.rows)
