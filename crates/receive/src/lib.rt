@@ -41,12 +41,11 @@ pub fn receive(parts: Parts, handle: u8) -> Result<Received, Errno>
     let mut counts = parts.counts;
     let n = count_at(counts, handle);
     let h = handle as usize;
-    let end = 16 * h + n;
-    let mut i = 16 * h;
-    let entry = entries[i];
-    while i + 1 < end {
+    let first = 16 * h;
+    let last = first + n - 1;
+    let entry = entries[first];
+    for i in first..last {
         entries[i] = entries[i + 1];
-        i += 1;
     }
     counts[h] = n - 1;
     let mut after = parts;
