@@ -38,12 +38,7 @@ fn wait_for(sent: Transmission, ts: u64) -> Wait
 }
 
 // Copies for the monitors, the result for the owner, the wait, the clock.
-pub fn bus_result(
-    mut parts: Parts,
-    status: u8,
-    counts: Counts,
-    ts: u64,
-) -> Result<Parts, Errno>
+pub fn bus_result(mut parts: Parts, status: u8, counts: Counts, ts: u64) -> Result<Parts, Errno>
     ensures { parts_outcome (state_of parts) result ≡ do_bus_result (state_of parts) status counts ts }
 {
     check(parts, status, ts)?;

@@ -10,7 +10,5 @@ loop-i-preserved c =
     let a = c.args in
     let l = c.loop-i in
     let e = c.count.ensures.value in
-
-      rw (c.abort_transmit-after.ensures, c.at.ensures, l.invariant.1)
-          (sym (delivered_next (λ x. x.owner) aborted_result (inboxes_of a.inboxes) (queue_of a.queue) l.i no_transmission (omega arith)))
-
+    rw (c.abort_transmit-after.ensures, c.at.ensures, l.invariant.1)
+    (sym (delivered_next (λ x. x.owner) aborted_result (inboxes_of a.inboxes) (queue_of a.queue) l.i no_transmission (omega arith)))
