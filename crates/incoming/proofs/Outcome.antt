@@ -1,33 +1,26 @@
 -- What a message from the wire comes to, from what each statement does to the parts.
 -- Assumes nothing.
-use Rattle.std.proofs.Common.{◌≡◌, ℕ, Bool, true, false, cond, ◌&&◌, eqb, ◌≢◌, List, sym, refl, ap, ◌∙◌, ap₂, ne_eqb, eqb-true, Option, Some, None}
-use borrow.Author.Tests.{eqb-false}
+use Rattle.std.proofs.Common.{◌≡◌, ℕ, Bool, true, false, cond, List, sym, refl, ap, ◌∙◌, ap₂}
 use Rattle.copies.specs.Kinds.{gets_copies}
-use Rattle.copies.specs.declared.Receivers.{Receivers}
 use Rattle.entry.specs.Entry.{message_copy}
 use Rattle.entry.specs.declared.Entry.{Entry}
-use Rattle.inbox.specs.Inboxes.{delivered}
 use Rattle.handle.specs.declared.Handle.{Handle}
 use Rattle.incoming.proofs.Copied.{copies_only, monitors_same}
 use Rattle.incoming.proofs.Receivers.{receivers_copies}
 use Rattle.incoming.proofs.Turns.{do_all, do_copies, do_note, do_reply, do_send, done_all, heard_all_lem}
-use Rattle.incoming.specs.Steps.{goes_on, monitor_kind, noted_at, receivers_of}
+use Rattle.incoming.specs.Steps.{goes_on, monitor_kind, noted_at}
 use Rattle.incoming.specs.Work.{arrival_of, to_do_of}
 use Rattle.incoming.specs.declared.Arrival.{Arrival}
 use Rattle.incoming.specs.declared.ToDo.{ToDo}
-use Rattle.lists.specs.Tests.{split}
-use Rattle.message.specs.Message.{destination, message}
+use Rattle.message.specs.Message.{destination}
 use Rattle.message.specs.declared.Message.{Message}
-use Rattle.parts.proofs.Arrays.{moved_parts}
-use Rattle.parts.proofs.Outcomes.{refused_outcome, taken_outcome}
-use Rattle.parts.specs.Parts.{with_changed, done_of, or_refused, state_of}
+use Rattle.parts.specs.Parts.{with_changed, state_of}
 use Rattle.parts.specs.declared.Parts.{Parts}
-use Rattle.rules.specs.Call.{Answer, finish}
 use Rattle.rules.specs.Deliver.{copies, deliver}
 use Rattle.rules.specs.Handles.{in_role, is_here}
-use Rattle.rules.specs.Incoming.{heard, incoming_refusal, monitors}
+use Rattle.rules.specs.Incoming.{heard, monitors}
 use Rattle.rules.specs.State.{State, with_handles, with_inboxes, with_waits, with_active, with_clock, with_noted}
-use Rattle.rules.specs.Tracker.{active_after_message, do_message}
+use Rattle.rules.specs.Tracker.{active_after_message}
 use Rattle.wait.specs.declared.Wait.{Wait}
 
 -- what copies change, stored in the parts

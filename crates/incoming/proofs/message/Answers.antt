@@ -11,7 +11,7 @@ use Rattle.incoming.specs.Work.{to_do_of}
 use Rattle.incoming.specs.declared.Ended.{Ended}
 use Rattle.message.specs.declared.Message.{Message}
 use Rattle.parts.proofs.Outcomes.{accepted_call, refused_call}
-use Rattle.parts.specs.Parts.{with_changed, state_of}
+use Rattle.parts.specs.Parts.{state_of}
 use Rattle.rules.specs.Call.{Answer, finish}
 use Rattle.rules.specs.Deliver.{copies}
 use Rattle.rules.specs.Handles.{in_role}
