@@ -9,6 +9,6 @@ pub loop-i-preserved : goal.loop-i-preserved
 loop-i-preserved c =
     let a = c.args in
     let l = c.loop-i in
-    let e = c.count.ensures.value in
-    rw (c.abort_transmit-after.ensures, c.at.ensures, l.invariant.1)
+    let e = c.count-i-end.ensures.value in
+    rw (c.abort_transmit-after.ensures, c.at.ensures, l.invariant)
     (sym (delivered_next (λ x. x.owner) aborted_result (inboxes_of a.inboxes) (queue_of a.queue) l.i no_transmission (omega arith)))

@@ -9,6 +9,6 @@ pub loop-i-preserved : goal.loop-i-preserved
 loop-i-preserved c =
     let a = c.args in
     let l = c.loop-i in
-    let e = c.count.ensures.value in
-    rw (c.abort_wait-after.ensures, c.at.ensures, l.invariant.1)
+    let e = c.count-i-end.ensures.value in
+    rw (c.abort_wait-after.ensures, c.at.ensures, l.invariant)
     (sym (delivered_next (λ x. x.owner) abort_entry (inboxes_of a.inboxes) (waits_of a.waits) l.i no_wait (omega arith)))
