@@ -1,4 +1,4 @@
-use Rattle.std.proofs.Common.{◌≡◌, length, arith, ap, rules, sym, refl, ◌∙◌}
+use Rattle.std.proofs.Common.{◌≡◌, length, arith, rules}
 use Rattle.std.proofs.lemmas.Result.{err_from_is_err_and}
 use Rattle.constants.specs.Kernel.{CEC-PHYS-ADDR-INVALID}
 use Rattle.lists.specs.Elements.{get_d_within}

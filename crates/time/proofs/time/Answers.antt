@@ -1,13 +1,11 @@
-use Rattle.std.proofs.Common.{◌+◌, ◌*◌, ◌∙◌, refl, sym, ap, set}
+use Rattle.std.proofs.Common.{◌∙◌, sym, ap}
 use Rattle.parts.specs.Parts.{state_of}
-use Rattle.parts.specs.declared.Parts.{Parts}
 use Rattle.rules.proofs.Deliveries.{each_delivers}
 use Rattle.rules.specs.Deliver.{deliver}
 use Rattle.rules.specs.Call.{finish, Answer}
 use Rattle.rules.specs.State.{with_waits}
 use Rattle.rules.specs.Time.{do_time, overdue, remaining, timeout_entry}
 use Rattle.time.proofs.Due.{Turns, with_new, turn, fewer, elapsed}
-use Rattle.waits.specs.Waits.{waits_of}
 use Rattle.time.proofs.time.Goals as goal
 
 pub loop-wait-smaller : goal.loop-wait-smaller
