@@ -1,10 +1,8 @@
 -- One record more of a kind, in a table of eleven counts.
 -- Assumes nothing.
-use Rattle.std.proofs.Common.{◌≡◌, ℕ, zero, suc, ◌+◌, ◌-◌, ◌<◌, Bool, false, cond, ◌||◌, eqb, ltb, List, [], ◌∷◌, length, get_or, set, sym, refl, ap, ◌∙◌, ap₂, arith, ltb-false, eq-eqb, ne_eqb}
-use borrow.Author.Tests.{eqb-false}
+use Rattle.std.proofs.Common.{◌≡◌, ℕ, zero, suc, ◌+◌, ◌-◌, ◌<◌, ◌≤◌, Bool, false, cond, eqb, List, [], ◌∷◌, length, get_or, set, sym, refl, ap, ◌∙◌, ap₂, arith, eq-eqb, ne_eqb}
 use Rattle.comparison.specs.Compare.{kinds}
 use Rattle.comparison.specs.Comparing.{counted}
-use Rattle.lists.specs.Tests.{neither}
 use Rattle.reading.specs.Reading.{place_after}
 
 -- n numbers from m on
@@ -34,10 +32,7 @@ counted_at m (suc n) (suc i) (c ∷ cs) e h =
     ap₂ (λ (b : Bool) (l : List ℕ). cond b (place_after c 1) c ∷ l) (ne_eqb (m + suc i) m (λ q. omega arith))
     (ap (counted (from (suc m) n) cs) s ∙ counted_at (suc m) n i cs (omega arith) (omega arith))
 
-pub count_known : (cs : List ℕ) (kind i : ℕ) → length cs ≡ 11 → (eqb kind 0 || ltb 11 kind) ≡ false → i ≡ kind - 1 → set cs i (place_after (get_or cs i 0) 1) ≡ counted kinds cs kind
-count_known cs kind i e t q =
-    let m = neither (eqb kind 0) (ltb 11 kind) t in
-    let a = eqb-false kind 0 m.0 in
-    let b = ltb-false 11 kind m.1 in
+pub count_known : (cs : List ℕ) (kind i : ℕ) → length cs ≡ 11 → 1 ≤ kind → kind ≤ 11 → i ≡ kind - 1 → set cs i (place_after (get_or cs i 0) 1) ≡ counted kinds cs kind
+count_known cs kind i e low high q =
     let s : 1 + i ≡ kind = omega arith in
     sym (counted_at 1 11 i cs e (omega arith)) ∙ ap (counted kinds cs) s

@@ -80,7 +80,7 @@ struct Log {
 // The number and the place of the next two records, or the first difference.
 #[derive(Clone, Copy)]
 enum Progress {
-    Going(u64, u64),
+    Going { number: u64, place: u64 },
     Decided(Difference),
 }
 
@@ -157,7 +157,7 @@ fn agree(left: &[u8], right: &[u8]) -> bool
 fn counted(mut counts: [u64; 11], kind: u8) -> [u64; 11]
     ensures { result ≡ counted kinds counts kind }
 {
-    if (kind == 0) | (11 < kind) {
+    if !(1..=11).contains(&kind) {
         return counts;
     }
     let i = usize::from(kind - 1);
@@ -237,7 +237,7 @@ impl Progress {
     fn met(self, left: &[u8], right: &[u8]) -> Progress
         ensures { progress_in result ≡ met (progress_in self) left.now right.now }
     {
-        let Progress::Going(number, place) = self else {
+        let Progress::Going { number, place } = self else {
             return self;
         };
         if kind_of(left) != kind_of(right) {
@@ -246,10 +246,10 @@ impl Progress {
         if !agree(left, right) {
             return decided(What::Body, number, place);
         }
-        Progress::Going(
-            number.wrapping_add(1),
-            place.wrapping_add(left.len() as u64),
-        )
+        Progress::Going {
+            number: number.wrapping_add(1),
+            place: place.wrapping_add(left.len() as u64),
+        }
     }
 
     // A record where the other log has none.
@@ -257,7 +257,7 @@ impl Progress {
         ensures { progress_in result ≡ alone (progress_in self) }
     {
         match self {
-            Progress::Going(number, place) => decided(What::End, number, place),
+            Progress::Going { number, place } => decided(What::End, number, place),
             Progress::Decided(_) => self,
         }
     }
@@ -266,7 +266,7 @@ impl Progress {
         ensures { result ≡ found self }
     {
         match self {
-            Progress::Going(_, _) => None,
+            Progress::Going { .. } => None,
             Progress::Decided(difference) => Some(difference),
         }
     }
@@ -291,7 +291,10 @@ impl Comparer {
         Comparer {
             left: Log::fresh(),
             right: Log::fresh(),
-            progress: Progress::Going(0, 0),
+            progress: Progress::Going {
+                number: 0,
+                place: 0,
+            },
         }
     }
 

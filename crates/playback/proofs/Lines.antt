@@ -1,6 +1,6 @@
 -- What a portion prints, taken in turns, and what a log prints, read in portions.
 -- Assumes nothing.
-use Rattle.std.proofs.Common.{ℕ, ◌+◌, ◌-◌, ◌<◌, ◌≤◌, List, [], ◌∷◌, ◌++◌, ◌≡◌, ◌⊎◌, Bool, true, false, true≢false, cond, length, take, drop, refl, sym, ap, ap₂, ◌∙◌, subst, arith, append_assoc, append-nil, length-append, inl, inr, None, Some, IfSome, Result, Ok, Err, OnOk}
+use Rattle.std.proofs.Common.{ℕ, ◌+◌, ◌<◌, ◌≤◌, List, [], ◌∷◌, ◌++◌, ◌≡◌, ◌⊎◌, Bool, true, false, true≢false, cond, length, take, drop, refl, sym, ap, ap₂, ◌∙◌, subst, arith, append_assoc, append-nil, length-append, inl, inr, None, Some, IfSome, Result, Ok, Err, OnOk}
 use borrow.Author.Tests.{le-ltb}
 use lib.Seq.{take-length, take-append_seam}
 use Rattle.std.specs.declared.option.Option.{Option}
@@ -121,12 +121,12 @@ went_none first s portion rest out out' r a b c e p w h z =
     went_end first (session_of r.player) portion rest a c (subst (λ (l : List ℕ). Went first (session_of r.player) portion l a c) same went) still
 
 -- The portions so far were played, and one more was read: the session, the lines, and the bytes that the log has left.
-pub record Played (log0 log lines0 lines : Option (List ℕ)) (now : Session) (portion : List ℕ) (left size : ℕ) : Type 0 where
+pub record Played (log0 log lines0 lines : Option (List ℕ)) (now : Session) (portion : List ℕ) (turns size : ℕ) : Type 0 where
   pub bytes : List ℕ
   pub session_is : now ≡ (fed fresh_session bytes).session
   pub wrote : Appends lines0 lines (fed fresh_session bytes).text
   pub read : Consumes log0 log (bytes ++ portion)
-  pub counted : 18446744073709551615 ≤ length bytes + left
+  pub counted : turns ≤ length bytes
   pub stopped : length portion ≡ 0 → 0 < size → now.ended ≡ true ⊎ IsAtEnd log
 
 -- the first portion is read
@@ -134,21 +134,20 @@ pub played_start : (log0 log lines : Option (List ℕ)) (s : Session) (portion :
     → s ≡ fresh_session
     → Consumes log0 log portion
     → (length portion ≡ 0 → 0 < size → s.ended ≡ true ⊎ IsAtEnd log)
-    → Played log0 log lines lines s portion 18446744073709551615 size
+    → Played log0 log lines lines s portion 0 size
 played_start log0 log lines s portion size at read stopped =
     record { bytes = []; session_is = at; wrote = Appends-nil lines; read = read; counted = omega arith; stopped = stopped }
 
 -- the portion is played, and the next one is read
-pub played_on : (log0 log log' lines0 lines lines' : Option (List ℕ)) (s s' : Session) (portion portion' : List ℕ) (left size : ℕ)
-    → Played log0 log lines0 lines s portion left size
+pub played_on : (log0 log log' lines0 lines lines' : Option (List ℕ)) (s s' : Session) (portion portion' : List ℕ) (turns size : ℕ)
+    → Played log0 log lines0 lines s portion turns size
     → s' ≡ (fed s portion).session
     → Appends lines lines' (fed s portion).text
     → Consumes log log' portion'
     → (length portion' ≡ 0 → 0 < size → s'.ended ≡ true ⊎ IsAtEnd log')
     → 0 < length portion
-    → 0 < left
-    → Played log0 log' lines0 lines' s' portion' (left - 1) size
-played_on log0 log log' lines0 lines lines' s s' portion portion' left size p at wrote read stopped some more =
+    → Played log0 log' lines0 lines' s' portion' (turns + 1) size
+played_on log0 log log' lines0 lines lines' s s' portion portion' turns size p at wrote read stopped some =
     let b = p.bytes in
     let f : fed fresh_session (b ++ portion) ≡ fed_on (fed fresh_session b) portion = fed_append fresh_session b portion in
     let from : fed s portion ≡ fed (fed fresh_session b).session portion = ap (λ (x : Session). fed x portion) p.session_is in
@@ -187,25 +186,25 @@ printed_end s b portion rest bytes at is none =
     sym (ap (λ (x : Printed). x.text ++ finished x.session) f) ∙ (replayed bytes).0
 
 -- so many portions are not read where each has a byte
-nothing_read : (b portion rest bytes : List ℕ) (left : ℕ) → bytes ≡ (b ++ portion) ++ rest → 18446744073709551615 ≤ length b + left → length bytes < 18446744073709551616
-    → (length portion ≡ 0) ⊎ (left ≡ 0) → length portion ≡ 0
-nothing_read b portion rest bytes left is many few (inl e) = e
-nothing_read b portion rest bytes left is many few (inr e) =
+nothing_read : (b portion rest bytes : List ℕ) (turns : ℕ) → bytes ≡ (b ++ portion) ++ rest → turns ≤ length b → length bytes < 18446744073709551616
+    → (length portion ≡ 0) ⊎ (18446744073709551615 ≤ turns) → length portion ≡ 0
+nothing_read b portion rest bytes turns is many few (inl e) = e
+nothing_read b portion rest bytes turns is many few (inr e) =
     let all : length bytes ≡ (length b + length portion) + length rest =
     ap length is ∙ length-append (b ++ portion) rest ∙ ap (λ (n : ℕ). n + length rest) (length-append b portion) in
     omega arith
 
 -- where no more is read, and what is said of the end was written, all that the log prints was written
-pub played_end : (log0 log lines0 lines lines' : Option (List ℕ)) (s : Session) (portion : List ℕ) (left size : ℕ)
-    → Played log0 log lines0 lines s portion left size
+pub played_end : (log0 log lines0 lines lines' : Option (List ℕ)) (s : Session) (portion : List ℕ) (turns size : ℕ)
+    → Played log0 log lines0 lines s portion turns size
     → Appends lines lines' (finished s)
     → 0 < size
-    → (length portion ≡ 0) ⊎ (left ≡ 0)
+    → (length portion ≡ 0) ⊎ (18446744073709551615 ≤ turns)
     → IfSome log0 (λ (bytes : List ℕ). length bytes < 18446744073709551616 → Appends lines0 lines' (printed_of bytes))
-played_end None log lines0 lines lines' s portion left size p w h d = tt
-played_end (Some bytes) None lines0 lines lines' s portion left size p w h d = absurd p.read
-played_end (Some bytes) (Some rest) lines0 lines lines' s portion left size p w h d = λ few.
-    let none : length portion ≡ 0 = nothing_read p.bytes portion rest bytes left p.read p.counted few d in
+played_end None log lines0 lines lines' s portion turns size p w h d = tt
+played_end (Some bytes) None lines0 lines lines' s portion turns size p w h d = absurd p.read
+played_end (Some bytes) (Some rest) lines0 lines lines' s portion turns size p w h d = λ few.
+    let none : length portion ≡ 0 = nothing_read p.bytes portion rest bytes turns p.read p.counted few d in
     let written : Appends lines0 lines' ((fed fresh_session p.bytes).text ++ finished s) = Appends-trans lines0 lines lines' (fed fresh_session p.bytes).text (finished s) p.wrote w in
     subst (Appends lines0 lines') (printed_end s p.bytes portion rest bytes p.session_is p.read (nothing_left s portion rest none (p.stopped none h))) written
 

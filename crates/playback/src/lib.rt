@@ -62,13 +62,14 @@ pub fn play<R: Read, W: Write>(
         → Appends (W.contents lines.old) (W.contents lines.new) (printed_of bytes))) }
 {
     let mut player = Player::fresh();
-    // at most 2^64 - 1 portions: with 65,536 bytes each, 2^80 bytes
-    let mut left: u64 = 18446744073709551615;
     let mut n = read_portion(log, portion, false)?;
-    while 0 < n && 0 < left {
+    // at most 2^64 - 1 portions: with 65,536 bytes each, 2^80 bytes
+    for _ in 0..u64::MAX {
+        if n == 0 {
+            break;
+        }
         player = play_portion(player, &portion[..n], out, lines)?;
         n = read_portion(log, portion, player.ended())?;
-        left -= 1;
     }
     let end = player.finish(out);
     let written = end.written;

@@ -4,15 +4,12 @@ use Rattle.player.specs.Player.{session_of}
 use Rattle.playback.proofs.Lines.{Played}
 use Rattle.playback.proofs.play.Given as goal
 
-abbrev pub invariant-loop-n : goal.invariant-loop-n
-invariant-loop-n g l = record {
+abbrev pub invariant-loop : goal.invariant-loop
+invariant-loop g l = record {
   in_range : l.n ≤ length l.portion;
   read_len : l.n ≡ length (take l.n l.portion);
   same_size : length l.portion ≡ length l.fn.portion;
   same_room : length l.out ≡ length l.fn.out;
   played : 29 ≤ length l.fn.out → Played (g.R.Read.remaining l.fn.log) (g.R.Read.remaining l.log) (g.W.Write.contents l.fn.lines) (g.W.Write.contents l.lines)
-      (session_of l.player) (take l.n l.portion) l.left (length l.fn.portion);
+      (session_of l.player) (take l.n l.portion) l.counter (length l.fn.portion);
 }
-
-abbrev pub decreases-loop-n : goal.decreases-loop-n
-decreases-loop-n g l = l.left
