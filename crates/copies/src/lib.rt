@@ -2,7 +2,7 @@
 #![tactic(auto)]
 
 ghost use Rattle.std.specs.Prelude.{◌≡◌};
-ghost use Rattle.copies.specs.Kinds.{gets_copies};
+ghost use Rattle.copies.specs.Kinds.{gets_copies, gets_copies_by_number, receivers_numbered};
 ghost use Rattle.handles.specs.Roles.{handles_of};
 ghost use Rattle.lists.specs.Sums.{any};
 ghost use Rattle.parts.specs.Parts.{state_of};
@@ -24,6 +24,33 @@ pub enum Receivers {
     MonitorsOfAll,
     ExclusiveFollower,
     Followers,
+}
+
+// The same by number.
+pub const MONITORS: u8 = 0;
+
+pub const MONITORS_OF_ALL: u8 = 1;
+
+pub const EXCLUSIVE_FOLLOWER: u8 = 2;
+
+pub const FOLLOWERS: u8 = 3;
+
+pub const NOBODY: u8 = 4;
+
+impl Receivers {
+    // Who gets copies by a number; any other number is nobody's.
+    pub fn numbered(kind: u8) -> Option<Receivers>
+        ensures value { result ≡ receivers_numbered kind }
+        ensures same_handles { gets_copies result ≡ gets_copies_by_number kind }
+    {
+        match kind {
+            MONITORS => Some(Receivers::Monitors),
+            MONITORS_OF_ALL => Some(Receivers::MonitorsOfAll),
+            EXCLUSIVE_FOLLOWER => Some(Receivers::ExclusiveFollower),
+            FOLLOWERS => Some(Receivers::Followers),
+            _ => None,
+        }
+    }
 }
 
 fn gets_copies(kind: Option<Receivers>, mode: u32) -> bool
