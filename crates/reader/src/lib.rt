@@ -94,7 +94,7 @@ pub struct Turn {
 
 // How many bytes follow a byte that stands for a kind; none follow an unknown one.
 #[tactic(auto, using(session_log::proofs::Gather::unknown_short))]
-fn body_length(byte: u8) -> usize
+pub fn body_length(byte: u8) -> usize
     ensures value { result ≡ body_length byte }
     ensures upper_bound { result ≤ 27 }
 {
@@ -116,7 +116,7 @@ impl Cursor {
     }
 
     // How many bytes of the record are held. No record is longer than 28, so a count over that stands for 28.
-    fn held(self) -> usize
+    pub fn held(self) -> usize
         ensures value { result ≡ at_most28 self.count }
         ensures upper_bound { result ≤ 28 }
     {
@@ -132,7 +132,7 @@ impl Cursor {
 
     // The record that is whole where so many bytes of it have come.
     #[tactic(auto, unfolding(crate::specs::Cursor::call_number))]
-    fn came(self, byte: u8, count: usize) -> Option<Whole>
+    pub fn came(self, byte: u8, count: usize) -> Option<Whole>
         ensures number { number_of result ≡ call_number self byte count }
         ensures length { IfSome result (λ whole. whole.length ≡ at_most28 count) }
     {
@@ -147,8 +147,9 @@ impl Cursor {
         })
     }
 
+    // The cursor where so many bytes of the record have come.
     #[tactic(auto, unfolding(crate::specs::Cursor::next_cursor))]
-    fn next(self, byte: u8, count: usize) -> Cursor
+    pub fn next(self, byte: u8, count: usize) -> Cursor
         ensures { result ≡ next_cursor self byte count }
     {
         let place = self.place;
