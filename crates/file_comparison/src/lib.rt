@@ -1,11 +1,22 @@
 // Two logs that are read in portions, and compared.
 #![tactic(auto)]
 
-ghost use Rattle.std.specs.Prelude.{◌≡◌, length};
+ghost use Rattle.std.specs.Prelude.{◌+◌, ◌≤◌, ◌≡◌, length};
 
 use comparer::{Comparer, Comparison, Side};
 use std::io;
 use std::io::{Read, Write};
+use std::ops::Range;
+
+// Where the bytes of a buffer lie that were not taken yet, after some more were.
+fn rest(window: Range<usize>, taken: usize) -> Range<usize>
+    requires { window.start + taken ≤ window.end }
+    ensures start_value { result.start ≡ window.start + taken }
+    ensures start_le_end { result.start ≤ result.end }
+    ensures end_value { result.end ≡ window.end }
+{
+    window.start + taken..window.end
+}
 
 // Compares what is read, in portions as long as the buffers, which hold a byte at least.
 pub fn compare<L: Read, R: Read>(
@@ -45,8 +56,8 @@ pub fn compare<L: Read, R: Read>(
             &left[first.start..first.end],
             &right[second.start..second.end],
         );
-        first.start += taken.left;
-        second.start += taken.right;
+        first = rest(first, taken.left);
+        second = rest(second, taken.right);
     }
     Ok(comparer.answer())
 }
