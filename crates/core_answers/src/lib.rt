@@ -107,7 +107,8 @@ fn features_answer(settings: Settings, asked: Message) -> Message
 pub fn work_for(settings: Settings, asked: Message) -> Work
     ensures { result ≡ work_of settings asked }
 {
-    match asked.opcode() {
+    let opcode = asked.opcode();
+    match opcode {
         CEC_MSG_GET_CEC_VERSION => Work::Answer(version_answer(settings, asked)),
         CEC_MSG_GIVE_DEVICE_VENDOR_ID => Work::Answer(vendor_answer(settings, asked)),
         CEC_MSG_GIVE_PHYSICAL_ADDR => Work::Answer(address_answer(settings, asked)),
