@@ -3,7 +3,7 @@
 
 ghost use Rattle.std.specs.Prelude.{◌≢◌, ◌≡◌};
 ghost use Rattle.adapter.specs.Adapter.{state_of, done_of, opened_of, transmitted_of, received_of, started_of, active_of, refused_call, refused_open, refused_transmit, refused_receive, refused_bus_start};
-ghost use Rattle.parts.specs.Parts.{parts_outcome};
+ghost use Rattle.parts.specs.Parts.{errno_of};
 ghost use Rattle.request.specs.Request.{request_of};
 ghost use Rattle.rows.specs.Noted.{noted_of, refused_lookup};
 ghost use Rattle.rules.specs.Call.{call_open, call_close, call_mode, call_transmit, call_receive, call_bus_start, call_bus_result, call_message, call_time, call_configure, call_unconfigure, call_lookup, call_active_address};
@@ -67,6 +67,16 @@ pub struct Started {
     pub message: Message,
 }
 
+// The number of an answer, 0 for success.
+fn number(answer: Result<(), Errno>) -> u32
+    ensures { result ≡ errno_of answer }
+{
+    match answer {
+        Ok(()) => 0,
+        Err(errno) => u32::from(errno),
+    }
+}
+
 impl Adapter {
     // A fresh adapter, for any capabilities.
     pub fn fresh(can_transmit: bool, can_monitor_all: bool) -> Adapter
@@ -77,115 +87,96 @@ impl Adapter {
         }
     }
 
-    // The answer of a call that gives nothing more: the adapter after it, or as it was beside the number of the refusal.
-    fn done(self, answer: Result<Parts, Errno>) -> Done
-        ensures result_value { done_of result ≡ parts_outcome (state_of self) answer }
-        ensures value { result.errno ≢ 0 → result ≡ refused_call self result.errno }
-    {
-        match answer {
-            Ok(parts) => Done {
-                adapter: Adapter { parts },
-                errno: 0,
-            },
-            Err(errno) => Done {
-                adapter: self,
-                errno: u32::from(errno),
-            },
-        }
-    }
-
     pub fn open(self, privileged: bool) -> Opened
         ensures result_value { opened_of result ≡ step (state_of self) (call_open privileged) }
         ensures value { result.errno ≢ 0 → result ≡ refused_open self result.errno }
     {
-        match open::open(self.parts, privileged) {
-            Ok(opened) => Opened {
-                adapter: Adapter {
-                    parts: opened.parts,
-                },
-                errno: 0,
-                handle: opened.handle,
-            },
-            Err(errno) => Opened {
-                adapter: self,
-                errno: u32::from(errno),
-                handle: 0,
-            },
+        let mut opened = Opened {
+            adapter: self,
+            errno: 0,
+            handle: 0,
+        };
+        match open::open(&mut opened.adapter.parts, privileged) {
+            Ok(handle) => opened.handle = handle,
+            Err(errno) => opened.errno = u32::from(errno),
         }
+        opened
     }
 
     pub fn close(self, handle: u8) -> Done
         ensures result_value { done_of result ≡ step (state_of self) (call_close handle) }
         ensures value { result.errno ≢ 0 → result ≡ refused_call self result.errno }
     {
-        self.done(close::close(self.parts, handle))
+        let mut done = Done {
+            adapter: self,
+            errno: 0,
+        };
+        done.errno = number(close::close(&mut done.adapter.parts, handle));
+        done
     }
 
     pub fn set_mode(self, handle: u8, mode: u32) -> Done
         ensures result_value { done_of result ≡ step (state_of self) (call_mode handle mode) }
         ensures value { result.errno ≢ 0 → result ≡ refused_call self result.errno }
     {
-        self.done(set_mode::mode(self.parts, handle, mode))
+        let mut done = Done {
+            adapter: self,
+            errno: 0,
+        };
+        done.errno = number(set_mode::mode(&mut done.adapter.parts, handle, mode));
+        done
     }
 
     pub fn transmit(self, handle: u8, request: Request) -> Transmitted
         ensures result_value { transmitted_of result ≡ step (state_of self) (call_transmit handle (request_of request)) }
         ensures value { result.errno ≢ 0 → result ≡ refused_transmit self result.errno }
     {
-        match transmit::transmit(self.parts, handle, request) {
-            Ok(sent) => Transmitted {
-                adapter: Adapter { parts: sent.parts },
-                errno: 0,
-                sequence: sent.sequence,
-                tx_status: sent.tx_status,
-            },
-            Err(errno) => Transmitted {
-                adapter: self,
-                errno: u32::from(errno),
-                sequence: 0,
-                tx_status: 0,
-            },
+        let mut transmitted = Transmitted {
+            adapter: self,
+            errno: 0,
+            sequence: 0,
+            tx_status: 0,
+        };
+        match transmit::transmit(&mut transmitted.adapter.parts, handle, request) {
+            Ok(sent) => {
+                transmitted.sequence = sent.sequence;
+                transmitted.tx_status = sent.tx_status;
+            }
+            Err(errno) => transmitted.errno = u32::from(errno),
         }
+        transmitted
     }
 
     pub fn receive(self, handle: u8) -> Received
         ensures result_value { received_of result ≡ step (state_of self) (call_receive handle) }
         ensures value { result.errno ≢ 0 → result ≡ refused_receive self result.errno }
     {
-        match receive::receive(self.parts, handle) {
-            Ok(received) => Received {
-                adapter: Adapter {
-                    parts: received.parts,
-                },
-                errno: 0,
-                entry: received.entry,
-            },
-            Err(errno) => Received {
-                adapter: self,
-                errno: u32::from(errno),
-                entry: Entry::none(),
-            },
+        let mut received = Received {
+            adapter: self,
+            errno: 0,
+            entry: Entry::none(),
+        };
+        match receive::receive(&mut received.adapter.parts, handle) {
+            Ok(entry) => received.entry = entry,
+            Err(errno) => received.errno = u32::from(errno),
         }
+        received
     }
 
     pub fn bus_start(self) -> Started
         ensures result_value { started_of result ≡ step (state_of self) call_bus_start }
         ensures value { result.errno ≢ 0 → result ≡ refused_bus_start self result.errno }
     {
-        match bus_start::bus_start(self.parts) {
-            Ok(started) => Started {
-                adapter: Adapter {
-                    parts: started.parts,
-                },
-                errno: 0,
-                message: started.message,
-            },
-            Err(errno) => Started {
-                adapter: self,
-                errno: u32::from(errno),
-                message: Message::new(0, [0; 16]),
-            },
+        let mut started = Started {
+            adapter: self,
+            errno: 0,
+            message: Message::new(0, [0; 16]),
+        };
+        match bus_start::bus_start(&mut started.adapter.parts) {
+            Ok(message) => started.message = message,
+            Err(errno) => started.errno = u32::from(errno),
         }
+        started
     }
 
     // The transmission on the wire ended, at a time in nanoseconds.
@@ -193,7 +184,12 @@ impl Adapter {
         ensures result_value { done_of result ≡ step (state_of self) (call_bus_result status counts ts) }
         ensures value { result.errno ≢ 0 → result ≡ refused_call self result.errno }
     {
-        self.done(bus_result::bus_result(self.parts, status, counts, ts))
+        let mut done = Done {
+            adapter: self,
+            errno: 0,
+        };
+        done.errno = number(bus_result::bus_result(&mut done.adapter.parts, status, counts, ts));
+        done
     }
 
     // A message came from the wire, at a time in nanoseconds.
@@ -201,27 +197,47 @@ impl Adapter {
         ensures result_value { done_of result ≡ step (state_of self) (call_message length bytes ts) }
         ensures value { result.errno ≢ 0 → result ≡ refused_call self result.errno }
     {
-        self.done(incoming::message(self.parts, length, bytes, ts))
+        let mut done = Done {
+            adapter: self,
+            errno: 0,
+        };
+        done.errno = number(incoming::message(&mut done.adapter.parts, length, bytes, ts));
+        done
     }
 
     // Milliseconds passed.
     pub fn time_passed(self, ms: u32) -> Done
         ensures { done_of result ≡ step (state_of self) (call_time ms) }
     {
-        self.done(Ok(time::time(self.parts, ms)))
+        let mut done = Done {
+            adapter: self,
+            errno: 0,
+        };
+        time::time(&mut done.adapter.parts, ms);
+        done
     }
 
     pub fn configure(self, settings: Settings) -> Done
         ensures result_value { done_of result ≡ step (state_of self) (call_configure settings) }
         ensures value { result.errno ≢ 0 → result ≡ refused_call self result.errno }
     {
-        self.done(configure::configure(self.parts, settings))
+        let mut done = Done {
+            adapter: self,
+            errno: 0,
+        };
+        done.errno = number(configure::configure(&mut done.adapter.parts, settings));
+        done
     }
 
     pub fn unconfigure(self) -> Done
         ensures { done_of result ≡ step (state_of self) call_unconfigure }
     {
-        self.done(Ok(unconfigure::unconfigure(self.parts)))
+        let mut done = Done {
+            adapter: self,
+            errno: 0,
+        };
+        unconfigure::unconfigure(&mut done.adapter.parts);
+        done
     }
 
     // The handle's row in the listing; crate `listing` fills a lent table with them.

@@ -2,10 +2,11 @@
 -- Assumes nothing.
 use Rattle.std.specs.Prelude.{Result}
 use Rattle.constants.specs.declared.Errno.{Errno}
-use Rattle.bus_start.specs.declared.Started.{Started}
-use Rattle.parts.specs.Parts.{state_of, outcome_of}
-use Rattle.rules.specs.Call.{Outcome, finish, started}
+use Rattle.message.specs.declared.Message.{Message}
+use Rattle.parts.specs.Parts.{outcome_of}
+use Rattle.rules.specs.Call.{Outcome, started}
 use Rattle.rules.specs.State.{State}
 
-abbrev pub started_of : State → Result Started Errno → Outcome
-started_of = outcome_of (λ r. finish (started r.message) (state_of r.parts))
+-- the state after the call, and what goes out or the refusal
+abbrev pub started_of : State → Result Message Errno → Outcome
+started_of = outcome_of started

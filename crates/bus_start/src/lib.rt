@@ -1,7 +1,7 @@
 // Bus start.
 #![tactic(auto)]
 
-ghost use Rattle.std.specs.Prelude.{◌≡◌};
+ghost use Rattle.std.specs.Prelude.{◌≡◌, IfErr};
 ghost use Rattle.bus_start.specs.Started.{started_of};
 ghost use Rattle.parts.specs.Parts.{state_of, errno_of};
 ghost use Rattle.rules.specs.BusStart.{do_bus_start, bus_start_refusal};
@@ -10,17 +10,9 @@ use constants::Errno;
 use message::Message;
 use parts::Parts;
 
-// The parts after the call, and what goes out.
-#[repr(C)]
-#[derive(Clone, Copy)]
-pub struct Started {
-    pub parts: Parts,
-    pub message: Message,
-}
-
 #[tactic(auto, unfolding(rules::specs::Call::check))]
-fn check(parts: Parts) -> Result<(), Errno>
-    ensures { errno_of result ≡ bus_start_refusal (state_of parts) }
+fn check(parts: &Parts) -> Result<(), Errno>
+    ensures { errno_of result ≡ bus_start_refusal (state_of parts.now) }
 {
     if 0 < parts.wire.count() {
         return Err(Errno::EBUSY);
@@ -31,14 +23,14 @@ fn check(parts: Parts) -> Result<(), Errno>
     Ok(())
 }
 
-// The parts after it and what goes out, or the refusal.
-pub fn bus_start(mut parts: Parts) -> Result<Started, Errno>
-    ensures { started_of (state_of parts) result ≡ do_bus_start (state_of parts) }
+// What goes out, or the refusal, which leaves the parts as they were.
+pub fn bus_start(parts: &mut Parts) -> Result<Message, Errno>
+    ensures value { started_of (state_of parts.new) result ≡ do_bus_start (state_of parts.old) }
+    ensures refused { IfErr result (λ errno. parts.new ≡ parts.old) }
 {
     check(parts)?;
     let head = parts.queue.head();
     parts.queue = parts.queue.without_head();
     parts.wire = parts.wire.put(head);
-    let message = head.message;
-    Ok(Started { parts, message })
+    Ok(head.message)
 }

@@ -1,8 +1,8 @@
 // Close.
 #![tactic(auto)]
 
-ghost use Rattle.std.specs.Prelude.{◌≡◌};
-ghost use Rattle.parts.specs.Parts.{state_of, errno_of, parts_outcome};
+ghost use Rattle.std.specs.Prelude.{◌≡◌, IfErr};
+ghost use Rattle.parts.specs.Parts.{state_of, errno_of, unit_outcome};
 ghost use Rattle.rules.specs.Close.{do_close, close_refusal};
 
 use constants::Errno;
@@ -10,8 +10,8 @@ use handles::closed;
 use parts::Parts;
 
 #[tactic(auto, unfolding(rules::specs::Call::check))]
-fn check(parts: Parts, handle: u8) -> Result<(), Errno>
-    ensures { errno_of result ≡ close_refusal (state_of parts) handle }
+fn check(parts: &Parts, handle: u8) -> Result<(), Errno>
+    ensures { errno_of result ≡ close_refusal (state_of parts.now) handle }
 {
     if !parts.is_open(handle) {
         return Err(Errno::EBADF);
@@ -19,15 +19,20 @@ fn check(parts: Parts, handle: u8) -> Result<(), Errno>
     Ok(())
 }
 
-// The parts after it, or the refusal.
-pub fn close(parts: Parts, handle: u8) -> Result<Parts, Errno>
-    ensures { parts_outcome (state_of parts) result ≡ do_close (state_of parts) handle }
+// Done, or the refusal, which leaves the parts as they were.
+pub fn close(parts: &mut Parts, handle: u8) -> Result<(), Errno>
+    ensures value { unit_outcome (state_of parts.new) result ≡ do_close (state_of parts.old) handle }
+    ensures refused { IfErr result (λ errno. parts.new ≡ parts.old) }
 {
     check(parts, handle)?;
-    let mut after = parts.with_inboxes(parts.inboxes().clear(handle));
-    after.handles = parts.handles.with(handle, closed());
-    after.queue = parts.queue.orphaned(handle);
-    after.wire = parts.wire.orphaned(handle);
-    after.waits = parts.waits.without_handle(handle);
-    Ok(after)
+    let inboxes = parts.inboxes().clear(handle);
+    let entries = inboxes.entries;
+    let counts = inboxes.counts;
+    parts.entries = entries;
+    parts.counts = counts;
+    parts.handles = parts.handles.with(handle, closed());
+    parts.queue = parts.queue.orphaned(handle);
+    parts.wire = parts.wire.orphaned(handle);
+    parts.waits = parts.waits.without_handle(handle);
+    Ok(())
 }

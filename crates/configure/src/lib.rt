@@ -1,9 +1,9 @@
 // Configure.
 #![tactic(auto)]
 
-ghost use Rattle.std.specs.Prelude.{◌-◌, ◌++◌, ◌≡◌, take, replicate};
+ghost use Rattle.std.specs.Prelude.{◌-◌, ◌++◌, ◌≡◌, take, replicate, IfErr};
 ghost use Rattle.configure.specs.Mask.{set_bits};
-ghost use Rattle.parts.specs.Parts.{state_of, errno_of, parts_outcome};
+ghost use Rattle.parts.specs.Parts.{state_of, errno_of, unit_outcome};
 ghost use Rattle.rules.specs.Configure.{do_configure, configure_refusal, is_mask, is_version1, is_version2, is_device_type, is_settings, kept_settings};
 
 use constants::{
@@ -70,8 +70,8 @@ fn is_settings(settings: Settings) -> bool
 
 // The EBUSY test comes first.
 #[tactic(auto, unfolding(rules::specs::Call::check))]
-fn check(parts: Parts, settings: Settings) -> Result<(), Errno>
-    ensures { errno_of result ≡ configure_refusal (state_of parts) settings }
+fn check(parts: &Parts, settings: Settings) -> Result<(), Errno>
+    ensures { errno_of result ≡ configure_refusal (state_of parts.now) settings }
 {
     if parts.is_configured() {
         return Err(Errno::EBUSY);
@@ -99,12 +99,12 @@ fn kept_settings(mut settings: Settings) -> Settings
     settings
 }
 
-// The parts after it, or the refusal.
-pub fn configure(parts: Parts, settings: Settings) -> Result<Parts, Errno>
-    ensures { parts_outcome (state_of parts) result ≡ do_configure (state_of parts) settings }
+// Done, or the refusal, which leaves the parts as they were.
+pub fn configure(parts: &mut Parts, settings: Settings) -> Result<(), Errno>
+    ensures value { unit_outcome (state_of parts.new) result ≡ do_configure (state_of parts.old) settings }
+    ensures refused { IfErr result (λ errno. parts.new ≡ parts.old) }
 {
     check(parts, settings)?;
-    let mut after = parts;
-    after.settings = kept_settings(settings);
-    Ok(after)
+    parts.settings = kept_settings(settings);
+    Ok(())
 }

@@ -1,9 +1,11 @@
 // A message from the wire, in six steps, for the tracker and for the clock.
 #![tactic(auto)]
 
-ghost use Rattle.std.specs.Prelude.{◌≡◌};
-ghost use Rattle.parts.specs.Parts.{state_of, errno_of, parts_outcome};
-ghost use Rattle.rules.specs.Handles.{is_here};
+ghost use Rattle.std.specs.Prelude.{◌≡◌, IfErr};
+ghost use Rattle.copies.specs.Kinds.{gets_copies};
+ghost use Rattle.parts.specs.Parts.{state_of, errno_of, unit_outcome};
+ghost use Rattle.rules.specs.Deliver.{copies};
+ghost use Rattle.rules.specs.Handles.{in_role, is_here};
 ghost use Rattle.rules.specs.Incoming.{incoming_refusal};
 ghost use Rattle.rules.specs.Tracker.{active_after_message, do_message};
 ghost use Rattle.incoming.specs.Steps.{monitor_kind, follower_kind, goes_on};
@@ -57,8 +59,8 @@ fn check(clock: u64, length: u8, ts: u64) -> Result<(), Errno>
     check_time(clock, ts)
 }
 
-fn is_here(parts: Parts, address: u8) -> bool
-    ensures { result ≡ is_here (state_of parts) address }
+fn is_here(parts: &Parts, address: u8) -> bool
+    ensures { result ≡ is_here (state_of parts.now) address }
 {
     (address == CEC_LOG_ADDR_BROADCAST) | parts.is_own(address)
 }
@@ -86,8 +88,8 @@ fn follower_kind(exclusive: bool) -> Receivers
 }
 
 // Whether a message goes on to steps 3 to 6.
-fn goes_on(parts: Parts, message: Message) -> bool
-    ensures { result ≡ goes_on (state_of parts) message }
+fn goes_on(parts: &Parts, message: Message) -> bool
+    ensures { result ≡ goes_on (state_of parts.now) message }
 {
     parts.is_configured() & (message.length() != 1) & is_here(parts, message.destination())
 }
@@ -117,8 +119,8 @@ fn to_followers(ended: Option<Ended>) -> bool
 }
 
 // Steps 3 to 6: reply, core work, copies, Feature Abort; nothing where the message goes no further.
-fn later_steps(parts: Parts, further: bool, message: Message) -> ToDo
-    ensures { result ≡ to_do_of (state_of parts) further message }
+fn later_steps(parts: &Parts, further: bool, message: Message) -> ToDo
+    ensures { result ≡ to_do_of (state_of parts.now) further message }
 {
     if !further {
         return ToDo {
@@ -145,8 +147,8 @@ fn later_steps(parts: Parts, further: bool, message: Message) -> ToDo
 }
 
 // The active address afterwards: a message is heard while configured.
-fn active_after(parts: Parts, message: Message) -> u16
-    ensures { result ≡ active_after_message (state_of parts) message }
+fn active_after(parts: &Parts, message: Message) -> u16
+    ensures { result ≡ active_after_message (state_of parts.now) message }
 {
     if parts.is_configured() {
         tracker::tracked(parts.active, message)
@@ -156,8 +158,8 @@ fn active_after(parts: Parts, message: Message) -> u16
 }
 
 // Step 1 and the tracker.
-fn arrived(parts: Parts, message: Message) -> Arrival
-    ensures { result ≡ arrival_of (state_of parts) message }
+fn arrived(parts: &Parts, message: Message) -> Arrival
+    ensures { result ≡ arrival_of (state_of parts.now) message }
 {
     let here = is_here(parts, message.destination());
     Arrival {
@@ -166,15 +168,29 @@ fn arrived(parts: Parts, message: Message) -> Arrival
     }
 }
 
-// The six steps as `arrived` and `later_steps` say them, then the tracker and the clock. Of the followers' copies only what they change is stored: to store the parts as a whole would move them once more.
-pub fn message(mut parts: Parts, length: u8, bytes: [u8; 16], ts: u64) -> Result<Parts, Errno>
-    ensures { parts_outcome (state_of parts) result ≡ do_message (state_of parts) length bytes ts }
+// Copies for all handles of a kind. Only what they change is stored: to store the parts as a whole would move them once more.
+fn put_copies(parts: &mut Parts, kind: Option<Receivers>, entry: Entry)
+    ensures { state_of parts.new ≡ copies (in_role (gets_copies kind)) entry (state_of parts.old) }
+{
+    let copied = copies::copies(*parts, kind, entry);
+    let handles = copied.handles;
+    let counts = copied.counts;
+    let entries = copied.entries;
+    parts.handles = handles;
+    parts.counts = counts;
+    parts.entries = entries;
+}
+
+// The six steps as `arrived` and `later_steps` say them, then the tracker and the clock; or the refusal, which leaves the parts as they were.
+pub fn message(parts: &mut Parts, length: u8, bytes: [u8; 16], ts: u64) -> Result<(), Errno>
+    ensures value { unit_outcome (state_of parts.new) result ≡ do_message (state_of parts.old) length bytes ts }
+    ensures refused { IfErr result (λ errno. parts.new ≡ parts.old) }
 {
     check(parts.clock, length, ts)?;
     let message = Message::new(length, bytes);
     let came = arrived(parts, message);
     if came.monitors.is_some() {
-        parts = copies::copies(parts, came.monitors, Entry::message_copy(message, ts));
+        put_copies(parts, came.monitors, Entry::message_copy(message, ts));
     }
     let to_do = later_steps(parts, goes_on(parts, message), message);
     if let Some(ended) = to_do.ended {
@@ -191,15 +207,9 @@ pub fn message(mut parts: Parts, length: u8, bytes: [u8; 16], ts: u64) -> Result
         parts.queue = parts.queue.put(Transmission::ownerless(sent));
     }
     if to_do.followers.is_some() {
-        let copied = copies::copies(parts, to_do.followers, Entry::message_copy(message, ts));
-        let handles = copied.handles;
-        let counts = copied.counts;
-        let entries = copied.entries;
-        parts.handles = handles;
-        parts.counts = counts;
-        parts.entries = entries;
+        put_copies(parts, to_do.followers, Entry::message_copy(message, ts));
     }
     parts.active = came.active;
     parts.clock = ts;
-    Ok(parts)
+    Ok(())
 }

@@ -1,7 +1,7 @@
 // Open.
 #![tactic(auto)]
 
-ghost use Rattle.std.specs.Prelude.{◌≡◌};
+ghost use Rattle.std.specs.Prelude.{◌≡◌, IfErr};
 ghost use Rattle.parts.specs.Parts.{state_of, errno_of};
 ghost use Rattle.open.specs.Answer.{opened_of};
 ghost use Rattle.rules.specs.Open.{do_open, open_refusal};
@@ -10,17 +10,9 @@ use constants::{CEC_MODE_INITIATOR, Errno};
 use handle::Handle;
 use parts::Parts;
 
-// The parts after the call, and the handle.
-#[repr(C)]
-#[derive(Clone, Copy)]
-pub struct Opened {
-    pub parts: Parts,
-    pub handle: u8,
-}
-
 #[tactic(auto, unfolding(rules::specs::Call::check))]
-fn check(parts: Parts) -> Result<(), Errno>
-    ensures { errno_of result ≡ open_refusal (state_of parts) }
+fn check(parts: &Parts) -> Result<(), Errno>
+    ensures { errno_of result ≡ open_refusal (state_of parts.now) }
 {
     if parts.handles.lowest_closed() == parts.handles.count() {
         return Err(Errno::EMFILE);
@@ -28,9 +20,10 @@ fn check(parts: Parts) -> Result<(), Errno>
     Ok(())
 }
 
-// The parts after it and the handle, or the refusal.
-pub fn open(parts: Parts, privileged: bool) -> Result<Opened, Errno>
-    ensures { opened_of (state_of parts) result ≡ do_open (state_of parts) privileged }
+// The handle, or the refusal, which leaves the parts as they were.
+pub fn open(parts: &mut Parts, privileged: bool) -> Result<u8, Errno>
+    ensures value { opened_of (state_of parts.new) result ≡ do_open (state_of parts.old) privileged }
+    ensures refused { IfErr result (λ errno. parts.new ≡ parts.old) }
 {
     check(parts)?;
     let handle = parts.handles.lowest_closed();
@@ -40,10 +33,6 @@ pub fn open(parts: Parts, privileged: bool) -> Result<Opened, Errno>
         mode: CEC_MODE_INITIATOR,
         lost: 0,
     };
-    let mut after = parts;
-    after.handles = parts.handles.with(handle, opened);
-    Ok(Opened {
-        parts: after,
-        handle,
-    })
+    parts.handles = parts.handles.with(handle, opened);
+    Ok(handle)
 }

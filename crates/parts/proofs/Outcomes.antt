@@ -9,7 +9,7 @@ use Rattle.constants.specs.declared.Errno.TheVariants.{EPERM, EBADF, EAGAIN, EBU
 use Rattle.std.proofs.Common.{Result, Ok, Err, arith}
 use Rattle.parts.specs.Parts.{errno_of, outcome_of}
 use Rattle.rules.proofs.Checks.{unless_done, unless_refused}
-use Rattle.rules.specs.Call.{Outcome, unless}
+use Rattle.rules.specs.Call.{Answer, Outcome, unless}
 use Rattle.rules.specs.State.{State}
 
 -- no refusal has the number 0
@@ -31,7 +31,7 @@ passed_check checked n u q z = sym z ∙ rw q refl
 pub accepted_call : (s : State) (o : Outcome) (checked : Result Unit Errno) (n : ℕ) (u : Unit) → checked ≡ Ok u → errno_of checked ≡ n → o ≡ unless n s o
 accepted_call s o checked n u q z = sym (unless_done s o n (sym z ∙ rw q refl))
 
--- a call whose checks refuse it, which hands their refusal on
-pub refused_call : {A : Type 0} (accepted : A → Outcome) (s : State) (o : Outcome) (checked : Result Unit Errno) (n : ℕ) (e : Errno) (r : Result A Errno)
-    → checked ≡ Err e → errno_of checked ≡ n → ((x : Errno) × (r ≡ Err x) × (x ≡ e)) → outcome_of accepted s r ≡ unless n s o
-refused_call accepted s o checked n e r q z (x, y, w) = rw (y, w, ← z, q) (sym (unless_refused s o (errno_number e) (numbered e)))
+-- a call whose checks refuse it, which hands their refusal on and leaves the state
+pub refused_call : {A : Type 0} (given : A → Answer) (s : State) (o : Outcome) (checked : Result Unit Errno) (n : ℕ) (e : Errno) (r : Result A Errno)
+    → checked ≡ Err e → errno_of checked ≡ n → ((x : Errno) × (r ≡ Err x) × (x ≡ e)) → outcome_of given s r ≡ unless n s o
+refused_call given s o checked n e r q z (x, y, w) = rw (y, w, ← z, q) (sym (unless_refused s o (errno_number e) (numbered e)))

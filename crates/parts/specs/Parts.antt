@@ -61,11 +61,11 @@ abbrev pub errno_of : Result Unit Errno → ℕ
 errno_of (Ok x) = 0
 errno_of (Err e) = errno_number e
 
--- what a call gives and leaves, or the number of its refusal, and the state as it was
-abbrev pub outcome_of : {A : Type 0} → (A → Outcome) → State → Result A Errno → Outcome
-outcome_of accepted before (Ok x) = accepted x
-outcome_of accepted before (Err e) = finish (refused (errno_number e)) before
+-- what a call gives and the state that it leaves, or the number of its refusal
+abbrev pub outcome_of : {A : Type 0} → (A → Answer) → State → Result A Errno → Outcome
+outcome_of given s (Ok x) = finish (given x) s
+outcome_of given s (Err e) = finish (refused (errno_number e)) s
 
 -- a call that gives nothing more
-abbrev pub parts_outcome : State → Result Parts Errno → Outcome
-parts_outcome = outcome_of (λ p. finish done (state_of p))
+abbrev pub unit_outcome : State → Result Unit Errno → Outcome
+unit_outcome = outcome_of (λ u. done)

@@ -2,10 +2,11 @@
 -- Assumes nothing.
 use Rattle.std.specs.Prelude.{Result}
 use Rattle.constants.specs.declared.Errno.{Errno}
-use Rattle.parts.specs.Parts.{state_of, outcome_of}
-use Rattle.receive.specs.declared.Received.{Received}
-use Rattle.rules.specs.Call.{Outcome, finish, received}
+use Rattle.entry.specs.declared.Entry.{Entry}
+use Rattle.parts.specs.Parts.{outcome_of}
+use Rattle.rules.specs.Call.{Outcome, received}
 use Rattle.rules.specs.State.{State}
 
-abbrev pub received_of : State → Result Received Errno → Outcome
-received_of = outcome_of (λ r. finish (received r.entry) (state_of r.parts))
+-- the state after the call, and the entry or the refusal
+abbrev pub received_of : State → Result Entry Errno → Outcome
+received_of = outcome_of received

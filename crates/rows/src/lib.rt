@@ -4,7 +4,7 @@
 ghost use Rattle.std.specs.Prelude.{false, ◌≢◌, ◌≡◌};
 ghost use Rattle.parts.specs.Parts.{state_of, errno_of, outcome_of};
 ghost use Rattle.rows.specs.Noted.{noted_of, refused_lookup};
-ghost use Rattle.rules.specs.Call.{Answer, finish};
+ghost use Rattle.rules.specs.Call.{Answer};
 ghost use Rattle.rules.specs.Listing.{row_of};
 ghost use Rattle.rules.specs.Lookup.{do_lookup, lookup_refusal};
 
@@ -66,8 +66,8 @@ fn check(address: u8) -> Result<(), Errno>
 }
 
 // The physical address that is noted for a logical one, or the refusal.
-fn lookup(parts: Parts, address: u8) -> Result<u16, Errno>
-    ensures { outcome_of (λ a. finish (Answer.address a) (state_of parts)) (state_of parts) result ≡ do_lookup (state_of parts) address }
+fn lookup(parts: &Parts, address: u8) -> Result<u16, Errno>
+    ensures { outcome_of Answer.address (state_of parts.now) result ≡ do_lookup (state_of parts.now) address }
 {
     check(address)?;
     Ok(parts.noted[address as usize])
@@ -78,7 +78,7 @@ pub fn noted_address(parts: Parts, address: u8) -> Noted
     ensures result_value { noted_of (state_of parts) result ≡ do_lookup (state_of parts) address }
     ensures value { result.errno ≢ 0 → result ≡ refused_lookup result.errno }
 {
-    match lookup(parts, address) {
+    match lookup(&parts, address) {
         Ok(noted) => Noted {
             errno: 0,
             address: noted,

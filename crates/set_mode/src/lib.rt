@@ -1,8 +1,8 @@
 // Another mode for a handle: the checks in their order, and the change.
 #![tactic(auto)]
 
-ghost use Rattle.std.specs.Prelude.{◌≡◌};
-ghost use Rattle.parts.specs.Parts.{state_of, errno_of, parts_outcome};
+ghost use Rattle.std.specs.Prelude.{◌≡◌, IfErr};
+ghost use Rattle.parts.specs.Parts.{state_of, errno_of, unit_outcome};
 ghost use Rattle.rules.specs.Mode.{do_mode, mode_refusal, is_mode, is_monitor_initiator, is_unable_follower, is_monitor_all_unable, is_mode_invalid, is_role_held};
 
 use constants::{CEC_MODE_MONITOR_ALL, CEC_MODE_NO_FOLLOWER, Errno};
@@ -26,20 +26,20 @@ fn is_monitor_initiator(mode: u32) -> bool
     is_monitor(mode) & (initiator_part(mode) != 0)
 }
 
-fn is_unable_follower(parts: Parts, mode: u32) -> bool
-    ensures { result ≡ is_unable_follower (state_of parts) mode }
+fn is_unable_follower(parts: &Parts, mode: u32) -> bool
+    ensures { result ≡ is_unable_follower (state_of parts.now) mode }
 {
     is_follower(mode) & ((initiator_part(mode) == 0) | !parts.can_transmit)
 }
 
-fn is_monitor_all_unable(parts: Parts, mode: u32) -> bool
-    ensures { result ≡ is_monitor_all_unable (state_of parts) mode }
+fn is_monitor_all_unable(parts: &Parts, mode: u32) -> bool
+    ensures { result ≡ is_monitor_all_unable (state_of parts.now) mode }
 {
     (follower_part(mode) == CEC_MODE_MONITOR_ALL) & !parts.can_monitor_all
 }
 
-fn is_mode_invalid(parts: Parts, mode: u32) -> bool
-    ensures { result ≡ is_mode_invalid (state_of parts) mode }
+fn is_mode_invalid(parts: &Parts, mode: u32) -> bool
+    ensures { result ≡ is_mode_invalid (state_of parts.now) mode }
 {
     !is_mode(mode)
         | is_monitor_initiator(mode)
@@ -47,8 +47,8 @@ fn is_mode_invalid(parts: Parts, mode: u32) -> bool
         | is_monitor_all_unable(parts, mode)
 }
 
-fn is_role_held(parts: Parts, handle: u8, mode: u32) -> bool
-    ensures { result ≡ is_role_held (state_of parts) handle mode }
+fn is_role_held(parts: &Parts, handle: u8, mode: u32) -> bool
+    ensures { result ≡ is_role_held (state_of parts.now) handle mode }
 {
     let others = parts.handles.roles_of_others(handle);
     is_exclusive_initiator(mode) & others.exclusive_initiator
@@ -56,8 +56,8 @@ fn is_role_held(parts: Parts, handle: u8, mode: u32) -> bool
 }
 
 #[tactic(auto, unfolding(rules::specs::Call::check))]
-fn check(parts: Parts, handle: u8, mode: u32) -> Result<(), Errno>
-    ensures { errno_of result ≡ mode_refusal (state_of parts) handle mode }
+fn check(parts: &Parts, handle: u8, mode: u32) -> Result<(), Errno>
+    ensures { errno_of result ≡ mode_refusal (state_of parts.now) handle mode }
 {
     if !parts.is_open(handle) {
         return Err(Errno::EBADF);
@@ -74,14 +74,14 @@ fn check(parts: Parts, handle: u8, mode: u32) -> Result<(), Errno>
     Ok(())
 }
 
-// The parts after it, or the refusal.
-pub fn mode(parts: Parts, handle: u8, mode: u32) -> Result<Parts, Errno>
-    ensures { parts_outcome (state_of parts) result ≡ do_mode (state_of parts) handle mode }
+// Done, or the refusal, which leaves the parts as they were.
+pub fn mode(parts: &mut Parts, handle: u8, mode: u32) -> Result<(), Errno>
+    ensures value { unit_outcome (state_of parts.new) result ≡ do_mode (state_of parts.old) handle mode }
+    ensures refused { IfErr result (λ errno. parts.new ≡ parts.old) }
 {
     check(parts, handle, mode)?;
     let mut now = parts.handle_at(handle);
     now.mode = mode;
-    let mut after = parts;
-    after.handles = parts.handles.with(handle, now);
-    Ok(after)
+    parts.handles = parts.handles.with(handle, now);
+    Ok(())
 }

@@ -10,15 +10,17 @@ use lib.ListN.{length, get_or}
 use borrow.Author.Tests.{leb-true, leb-false, lt-ltb, le-ltb, le-leb, lt-leb}
 use Rattle.entry.specs.declared.Entry.{Entry}
 use Rattle.inbox.specs.Inboxes.{delivered}
+use Rattle.lists.specs.Elements.{empty_list}
 use Rattle.lists.specs.Order.{sort, least_over, sort_least}
 use Rattle.lists.specs.Places.{least, least_lt, without_past, keep_without}
 use Rattle.lists.specs.Sums.{keep, keep_none, keep_all}
 use Rattle.lists.specs.Tests.{split, cond_same}
+use Rattle.rules.specs.Call.{finish, done}
 use Rattle.rules.specs.Deliver.{deliver}
 use Rattle.parts.specs.Parts.{state_of}
 use Rattle.parts.specs.declared.Parts.{Parts}
 use Rattle.rules.specs.State.{State, with_inboxes, with_waits}
-use Rattle.rules.specs.Time.{overdue, remaining, timeout_entry}
+use Rattle.rules.specs.Time.{do_time, overdue, remaining, timeout_entry}
 use Rattle.std.specs.Prelude.{Some, None}
 use Rattle.time.specs.Time.{timed_out_all}
 use Rattle.wait.specs.Wait.{no_wait, left_of, reduced}
@@ -158,3 +160,8 @@ elapsed ms a p new after before none less =
     let boxes : (state_of p).inboxes ≡ timed_out_all (state_of a).inboxes (overdue ms (waits_of a.waits)) = ap (timed_out_all (state_of p).inboxes) (sym (due_none ms ws (waits_of new) none)) ∙ before.boxes in
     let waits : waits_of after ≡ remaining ms (waits_of a.waits) = less ∙ ap (map (reduced ms)) (sym (others_none ms ws (waits_of new) none) ∙ before.rest) in
     elapsed_parts (state_of a) (state_of p) (state_of p).inboxes _ (waits_of after) _ ws before.state boxes waits
+
+-- with no waits, time changes nothing
+pub no_waits : (s : State) (ms : ℕ) → length s.waits ≡ 0 → finish done s ≡ do_time s ms
+unfolding do_time
+no_waits s ms e = rw (empty_list s.waits e)

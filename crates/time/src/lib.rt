@@ -10,9 +10,12 @@ use entry::Entry;
 use parts::Parts;
 
 // Each wait with no more left than that ends by an entry for its owner, with the sent length, bytes and time and the opcode wanted, least time left first, oldest first where equal. Others are reduced.
-pub fn time(mut parts: Parts, ms: u32) -> Parts
-    ensures { finish done (state_of result) ≡ do_time (state_of parts) ms }
+pub fn time(parts: &mut Parts, ms: u32)
+    ensures { finish done (state_of parts.new) ≡ do_time (state_of parts.old) ms }
 {
+    if parts.waits.count() == 0 {
+        return;
+    }
     while let Some(wait) = parts.waits.take_due(ms) {
         parts.deliver(
             wait.owner,
@@ -20,5 +23,4 @@ pub fn time(mut parts: Parts, ms: u32) -> Parts
         );
     }
     parts.waits = parts.waits.reduced(ms);
-    parts
 }

@@ -2,10 +2,11 @@
 -- Assumes nothing.
 use Rattle.std.specs.Prelude.{Result}
 use Rattle.constants.specs.declared.Errno.{Errno}
-use Rattle.parts.specs.Parts.{state_of, outcome_of}
-use Rattle.rules.specs.Call.{Outcome, finish, accepted}
+use Rattle.parts.specs.Parts.{outcome_of}
+use Rattle.rules.specs.Call.{Outcome, accepted}
 use Rattle.rules.specs.State.{State}
 use Rattle.transmit.specs.declared.Transmitted.{Transmitted}
 
+-- the state after the call, and the number and tx_status or the refusal
 abbrev pub transmitted_of : State → Result Transmitted Errno → Outcome
-transmitted_of = outcome_of (λ r. finish (accepted r.sequence r.tx_status) (state_of r.parts))
+transmitted_of = outcome_of (λ r. accepted r.sequence r.tx_status)

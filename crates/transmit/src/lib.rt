@@ -1,7 +1,7 @@
 // A message to send: the checks in their order, and the queue.
 #![tactic(auto)]
 
-ghost use Rattle.std.specs.Prelude.{◌≤◌, ◌≡◌};
+ghost use Rattle.std.specs.Prelude.{◌≤◌, ◌≡◌, IfErr};
 ghost use Rattle.parts.specs.Parts.{state_of, errno_of};
 ghost use Rattle.request.specs.Request.{request_of};
 ghost use Rattle.rules.specs.Transmit.{is_misaddressed, is_self_poll, is_full, sender_refusal, request_refusal, transmit_refusal, transmission_of, new_room, do_transmit};
@@ -16,25 +16,23 @@ use parts::Parts;
 use request::Request;
 use transmission::Transmission;
 
-// The parts after the call, the sequence number and tx_status.
-#[repr(C)]
+// The sequence number and tx_status.
 #[derive(Clone, Copy)]
 pub struct Transmitted {
-    pub parts: Parts,
     pub sequence: u32,
     pub tx_status: u8,
 }
 
-fn is_misaddressed(parts: Parts, request: Request) -> bool
-    ensures { result ≡ is_misaddressed (state_of parts) (request_of request) }
+fn is_misaddressed(parts: &Parts, request: Request) -> bool
+    ensures { result ≡ is_misaddressed (state_of parts.now) (request_of request) }
 {
     let from = request.initiator();
     !((from == CEC_LOG_ADDR_UNREGISTERED) | parts.is_own(from))
         | (2 <= request.length) & parts.is_own(request.destination())
 }
 
-fn is_self_poll(parts: Parts, request: Request) -> bool
-    ensures { result ≡ is_self_poll (state_of parts) (request_of request) }
+fn is_self_poll(parts: &Parts, request: Request) -> bool
+    ensures { result ≡ is_self_poll (state_of parts.now) (request_of request) }
 {
     request.is_poll() & parts.is_own(request.destination())
 }
@@ -47,8 +45,8 @@ fn new_room(request: Request) -> usize
     if request.wants_reply() { 2 } else { 1 }
 }
 
-fn is_full(parts: Parts, handle: u8, request: Request) -> bool
-    ensures { result ≡ is_full (state_of parts) handle (request_of request) }
+fn is_full(parts: &Parts, handle: u8, request: Request) -> bool
+    ensures { result ≡ is_full (state_of parts.now) handle (request_of request) }
 {
     let owed = traffic::owed(parts.queue, parts.wire, parts.waits, handle);
     (18 <= parts.queue.count())
@@ -57,8 +55,8 @@ fn is_full(parts: Parts, handle: u8, request: Request) -> bool
 }
 
 // Checks 1 and 2: whether the handle may transmit.
-fn sender_check(parts: Parts, handle: u8) -> Result<(), Errno>
-    ensures { errno_of result ≡ sender_refusal (state_of parts) handle 0 }
+fn sender_check(parts: &Parts, handle: u8) -> Result<(), Errno>
+    ensures { errno_of result ≡ sender_refusal (state_of parts.now) handle 0 }
 {
     let handles = parts.handles;
     let own = handles.at(handle);
@@ -78,8 +76,8 @@ fn sender_check(parts: Parts, handle: u8) -> Result<(), Errno>
 }
 
 // Checks 3 to 6: whether the request may be sent.
-fn request_check(parts: Parts, request: Request) -> Result<(), Errno>
-    ensures { errno_of result ≡ request_refusal (state_of parts) (request_of request) 0 }
+fn request_check(parts: &Parts, request: Request) -> Result<(), Errno>
+    ensures { errno_of result ≡ request_refusal (state_of parts.now) (request_of request) 0 }
 {
     if request.is_malformed() {
         return Err(Errno::EINVAL);
@@ -101,8 +99,8 @@ fn request_check(parts: Parts, request: Request) -> Result<(), Errno>
 }
 
 // The checks in their order. A poll to an own address, 7, needs no room, 8.
-fn check(parts: Parts, handle: u8, request: Request) -> Result<(), Errno>
-    ensures { errno_of result ≡ transmit_refusal (state_of parts) handle (request_of request) }
+fn check(parts: &Parts, handle: u8, request: Request) -> Result<(), Errno>
+    ensures { errno_of result ≡ transmit_refusal (state_of parts.now) handle (request_of request) }
 {
     sender_check(parts, handle)?;
     request_check(parts, request)?;
@@ -126,23 +124,22 @@ fn transmission(sequence: u32, handle: u8, request: Request) -> Transmission
     }
 }
 
-// The parts after it, the number and tx_status, or the refusal.
-pub fn transmit(mut parts: Parts, handle: u8, request: Request) -> Result<Transmitted, Errno>
-    ensures { transmitted_of (state_of parts) result ≡ do_transmit (state_of parts) handle (request_of request) }
+// The number and tx_status, or the refusal, which leaves the parts as they were.
+pub fn transmit(parts: &mut Parts, handle: u8, request: Request) -> Result<Transmitted, Errno>
+    ensures value { transmitted_of (state_of parts.new) result ≡ do_transmit (state_of parts.old) handle (request_of request) }
+    ensures refused { IfErr result (λ errno. parts.new ≡ parts.old) }
 {
     check(parts, handle, request)?;
     let sequence = traffic::next_sequence(parts.queue, parts.wire, parts.waits, parts.last);
     parts.last = sequence;
     if is_self_poll(parts, request) {
         return Ok(Transmitted {
-            parts,
             sequence,
             tx_status: CEC_TX_STATUS_NACK,
         });
     }
     parts.queue = parts.queue.put(transmission(sequence, handle, request));
     Ok(Transmitted {
-        parts,
         sequence,
         tx_status: 0,
     })

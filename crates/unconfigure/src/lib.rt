@@ -89,17 +89,19 @@ fn abort(inboxes: Inboxes, queue: Queue, wire: Wire, waits: Waits) -> Inboxes
 }
 
 // All that is on its way ends; address 0xFFFF, mask 0, noted addresses and the active one cleared, the other settings 0. The clock stays.
-pub fn unconfigure(parts: Parts) -> Parts
-    ensures { finish done (state_of result) ≡ do_unconfigure (state_of parts) }
+pub fn unconfigure(parts: &mut Parts)
+    ensures { finish done (state_of parts.new) ≡ do_unconfigure (state_of parts.old) }
 {
     let inboxes = abort(parts.inboxes(), parts.queue, parts.wire, parts.waits);
-    let mut after = parts.with_inboxes(inboxes);
-    after.queue = parts.queue.emptied();
-    after.wire = Wire::idle();
-    after.waits = parts.waits.emptied();
-    after.settings = no_settings();
+    let entries = inboxes.entries;
+    let counts = inboxes.counts;
+    parts.entries = entries;
+    parts.counts = counts;
+    parts.queue = parts.queue.emptied();
+    parts.wire = Wire::idle();
+    parts.waits = parts.waits.emptied();
+    parts.settings = no_settings();
     let noted = none_noted();
-    after.noted = noted;
-    after.active = CEC_PHYS_ADDR_INVALID;
-    after
+    parts.noted = noted;
+    parts.active = CEC_PHYS_ADDR_INVALID;
 }

@@ -1,5 +1,6 @@
 use Rattle.std.proofs.Common.{◌≡◌, List, ap, ap₂, ◌∙◌, drop}
 use Rattle.bus_result.proofs.Concluded.{begun_taken, begun_left, concluded_parts, result_for, watched, watched_none, watched_some}
+use Rattle.bus_result.proofs.Copied.{copied_change}
 use Rattle.entry.specs.declared.Counts.{Counts}
 use Rattle.entry.specs.declared.Entry.{Entry}
 use Rattle.parts.proofs.Outcomes.{accepted_call, refused_call}
@@ -18,20 +19,20 @@ use Rattle.bus_result.proofs.bus_result.Goals.{After-is_ok, then-has, else-has}
 module _ (c : After-is_ok) where
   -- the monitors have their copies
   abbrev seen : State
-  seen = watched (state_of c.args.parts) c.head-sent.result c.args.status c.kept_counts-kept.result c.args.ts
+  seen = watched (state_of c.args.parts.now) c.head-sent.result c.args.status c.kept_counts-kept.result c.args.ts
 
   abbrev answer : Entry
-  answer = result_for (state_of c.args.parts) c.head-sent.result c.args.status c.kept_counts-kept.result c.args.ts
+  answer = result_for (state_of c.args.parts.now) c.head-sent.result c.args.status c.kept_counts-kept.result c.args.ts
 
   copied : state_of c.if-has.parts ≡ seen
   copied =
-      let p = c.args.parts in
+      let p = c.args.parts.now in
       let sent = c.head-sent.result in
       let n = c.args.status in
       let k = c.kept_counts-kept.result in
       let ts = c.args.ts in
       elim c.if-has.branch [
-        | then-has w ↦ ap state_of w.parts-is ∙ watched_some (state_of p) sent n k ts _ _ w.result_copy.ensures w.copies-parts.ensures.result_value
+        | then-has w ↦ ap state_of w.parts-is ∙ watched_some (state_of p) sent n k ts _ _ w.result_copy.ensures (copied_change p _ _ _ w.copies-copied.ensures.result_value)
         | else-has w ↦ ap state_of w.parts-is ∙ watched_none (state_of p) sent n k ts _ c.has.ensures w.if-has.false
       ]
 
@@ -46,28 +47,28 @@ module _ (c : After-is_ok) where
       wire ≡ drop 1 (state_of c.deliver.new.self).wire
       → waits ≡ begun a.status c.head-sent.result a.ts (state_of c.deliver.new.self).waits
       → finish Answer.done (with_clock (with_waits (with_wire (state_of c.deliver.new.self) wire) waits) a.ts)
-      ≡ do_bus_result (state_of a.parts) a.status a.counts a.ts
+      ≡ do_bus_result (state_of a.parts.now) a.status a.counts a.ts
   unfolding do_bus_result
   ends wire waits q r =
       let a = c.args in
-      let s = state_of a.parts in
+      let s = state_of a.parts.now in
       let sent = c.head-sent.result in
       let all = concluded_parts s sent a.status c.kept_counts-kept.result a.ts (state_of c.deliver.new.self) wire waits told q r in
       ap (λ (x : State). finish Answer.done (with_clock x a.ts)) (all ∙ ap₂ (λ (t : Transmission) (k : Counts). concluded s t a.status k a.ts) c.head-sent.ensures c.kept_counts-kept.ensures)
       ∙ accepted_call s _ _ _ _ c.in_ok-check.was c.check.ensures
 
-pub returns-then-is_ok-sent : goal.returns-then-is_ok-sent
-returns-then-is_ok-sent c =
-    let d = (goal.at.returns-then-is_ok-sent c).After-is_ok in
+pub returns-then-is_ok-sent-clause-value : goal.returns-then-is_ok-sent-clause-value
+returns-then-is_ok-sent-clause-value c =
+    let d = (goal.at.returns-then-is_ok-sent-clause-value c).After-is_ok in
     let waits = begun_taken c.args.status c.head-sent.result c.args.ts (state_of c.deliver.new.self).waits _ c.is_ok.ensures _ c.if-is_ok-sent.true c.wait_for.ensures in
     ends d _ _ c.without_head-parts.ensures (c.put-parts.ensures ∙ waits)
 
-pub returns-else-is_ok-sent : goal.returns-else-is_ok-sent
-returns-else-is_ok-sent c =
-    let d = (goal.at.returns-else-is_ok-sent c).After-is_ok in
+pub returns-else-is_ok-sent-clause-value : goal.returns-else-is_ok-sent-clause-value
+returns-else-is_ok-sent-clause-value c =
+    let d = (goal.at.returns-else-is_ok-sent-clause-value c).After-is_ok in
     let waits = begun_left c.args.status c.head-sent.result c.args.ts (state_of c.deliver.new.self).waits _ c.is_ok.ensures c.if-is_ok-sent.false in
     ends d _ _ c.without_head-parts.ensures waits
 
-pub returns-in_err-check : goal.returns-in_err-check
+pub returns-in_err-check-clause-value : goal.returns-in_err-check-clause-value
 unfolding do_bus_result
-returns-in_err-check c = refused_call _ _ _ _ _ _ _ c.in_err-check.was c.check.ensures (err_from_is_err_and _ c.from_residual.ensures.1)
+returns-in_err-check-clause-value c = refused_call _ _ _ _ _ _ _ c.in_err-check.was c.check.ensures (err_from_is_err_and _ c.from_residual.ensures.1)

@@ -1,5 +1,5 @@
 use Rattle.std.proofs.lemmas.Result.{err_from_is_err_and}
-use Rattle.std.proofs.Common.{ap, ◌∙◌, set}
+use Rattle.std.proofs.Common.{ap, refl, ◌∙◌, set}
 use Rattle.inbox.specs.Inboxes.{cleared, inboxes_of}
 use Rattle.inbox.specs.declared.Inboxes.{Inboxes}
 use Rattle.parts.proofs.Outcomes.{accepted_call, refused_call}
@@ -7,20 +7,21 @@ use Rattle.parts.specs.Parts.{state_of}
 use Rattle.close.proofs.Ends.{closed_parts}
 use Rattle.rules.specs.Call.{Answer, finish}
 use Rattle.rules.specs.Close.{do_close}
+use Rattle.rules.specs.State.{with_inboxes}
 use Rattle.close.proofs.close.Goals as goal
 
-pub returns-in_err-check : goal.returns-in_err-check
+pub returns-in_err-check-clause-value : goal.returns-in_err-check-clause-value
 unfolding do_close
-returns-in_err-check c = refused_call _ _ _ _ _ _ _ c.in_err-check.was c.check.ensures (err_from_is_err_and _ c.from_residual.ensures.1)
+returns-in_err-check-clause-value c = refused_call _ _ _ _ _ _ _ c.in_err-check.was c.check.ensures (err_from_is_err_and _ c.from_residual.ensures.1)
 
-pub returns : goal.returns
+pub returns-clause-value : goal.returns-clause-value
 unfolding do_close
-returns c =
+returns-clause-value c =
     let a = c.args in
-    let s = state_of a.parts in
-    let inbox = c.clear.ensures ∙ ap (λ (x : Inboxes). cleared (inboxes_of x) a.handle) c.inboxes.ensures in
-    let handle = c.with-after.ensures ∙ ap (set s.handles a.handle) c.closed.ensures in
+    let s = state_of a.parts.now in
+    let inbox = c.clear-inboxes.ensures ∙ ap (λ (x : Inboxes). cleared (inboxes_of x) a.handle) c.inboxes.ensures in
+    let handle = c.with-parts.ensures ∙ ap (set s.handles a.handle) c.closed.ensures in
     let after =
-    closed_parts s (state_of c.with_inboxes-after.result) a.handle _ _ _ _ _ c.with_inboxes-after.ensures inbox handle
-    c.orphaned-after.ensures c.orphaned-after-2.ensures c.without_handle-after.ensures in
+    closed_parts s (with_inboxes s (inboxes_of c.clear-inboxes.result)) a.handle _ _ _ _ _ refl inbox handle
+    c.orphaned-parts.ensures c.orphaned-parts-2.ensures c.without_handle-parts.ensures in
     ap (finish Answer.done) after ∙ accepted_call s _ _ _ _ c.in_ok-check.was c.check.ensures

@@ -20,6 +20,6 @@ unfolding do_lookup
 returns c =
     let a = c.args in
     let within = taken a.address (passed_check _ _ _ c.in_ok-check.was c.check.ensures) in
-    let long : length a.parts.noted ≡ 15 = search rules in
-    rw (get_d_within a.parts.noted a.address CEC-PHYS-ADDR-INVALID 0 (omega arith))
-    (accepted_call (state_of a.parts) _ _ _ _ c.in_ok-check.was c.check.ensures)
+    let long : length a.parts.now.noted ≡ 15 = search rules in
+    rw (get_d_within a.parts.now.noted a.address CEC-PHYS-ADDR-INVALID 0 (omega arith))
+    (accepted_call (state_of a.parts.now) _ _ _ _ c.in_ok-check.was c.check.ensures)

@@ -10,13 +10,13 @@ use Rattle.transmit.proofs.check.Goals as goal
 
 pub returns-in_err-sender_check : goal.returns-in_err-sender_check
 returns-in_err-sender_check c =
-    let s = state_of c.args.parts in
+    let s = state_of c.args.parts.now in
     handed_on _ _ _ c.in_err-sender_check.was (err_from_is_err_and _ c.from_residual.ensures.1)
     ∙ refuses (sender_refusal s c.args.handle) (sender_leads s c.args.handle) _ _ c.sender_check.ensures (refusing _ _ c.in_err-sender_check.was)
 
 pub returns-in_err-request_check : goal.returns-in_err-request_check
 returns-in_err-request_check c =
-    let s = state_of c.args.parts in
+    let s = state_of c.args.parts.now in
     let r = request_of c.args.request in
     handed_on _ _ _ c.in_err-request_check.was (err_from_is_err_and _ c.from_residual-in_err-request_check.ensures.1)
     ∙ refuses (request_refusal s r) (request_leads s r) _ _ c.request_check.ensures (refusing _ _ c.in_err-request_check.was)
@@ -24,7 +24,7 @@ returns-in_err-request_check c =
 
 pub returns-then-is_self_poll-is_full : goal.returns-then-is_self_poll-is_full
 returns-then-is_self_poll-is_full c =
-    let s = state_of c.args.parts in
+    let s = state_of c.args.parts.now in
     let r = request_of c.args.request in
     stopped _ _ 0 (rw (c.is_self_poll.ensures, c.is_full.ensures) at c.if-is_self_poll-is_full.true)
     ∙ passes (request_refusal s r) (request_leads s r) _ _ c.request_check.ensures (ap errno_of c.in_ok-request_check.was)
@@ -32,7 +32,7 @@ returns-then-is_self_poll-is_full c =
 
 pub returns : goal.returns
 returns c =
-    let s = state_of c.args.parts in
+    let s = state_of c.args.parts.now in
     let r = request_of c.args.request in
     onward _ _ 0 _ (rw (c.is_self_poll.ensures, c.is_full.ensures) at c.if-is_self_poll-is_full.false) refl
     ∙ passes (request_refusal s r) (request_leads s r) _ _ c.request_check.ensures (ap errno_of c.in_ok-request_check.was)
