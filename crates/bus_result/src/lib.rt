@@ -47,8 +47,8 @@ pub fn bus_result(parts: &mut Parts, status: u8, counts: Counts, ts: u64) -> Res
     let message = sent.message;
     let kept = kept_counts(status, counts);
     let monitors = Some(Receivers::Monitors);
-    if copies::has(parts.handles, monitors) {
-        let copied = copies::copies(
+    if copies::any_receiver(parts.handles, monitors) {
+        let copied = copies::for_receivers(
             *parts,
             monitors,
             Entry::result_copy(status, kept, message, ts),

@@ -2,7 +2,7 @@
 #![tactic(auto)]
 
 ghost use Rattle.std.specs.Prelude.{◌≡◌};
-ghost use Rattle.copies.specs.Kinds.{gets_copies, gets_copies_by_number, receivers_numbered};
+ghost use Rattle.copies.specs.Kinds.{gets_copies, gets_copies_by_number, receivers_numbered, NOBODY};
 ghost use Rattle.handles.specs.Roles.{handles_of};
 ghost use Rattle.lists.specs.Sums.{any};
 ghost use Rattle.parts.specs.Parts.{state_of};
@@ -82,7 +82,7 @@ fn is_copied(kind: Option<Receivers>, handle: Handle) -> bool
 }
 
 // Copies for all handles of a kind, ascending: one that has no room left loses its copy. What changes lies beside the parts meanwhile, so that these are not copied as a whole.
-pub fn copies(parts: Parts, kind: Option<Receivers>, entry: Entry) -> Parts
+pub fn for_receivers(parts: Parts, kind: Option<Receivers>, entry: Entry) -> Parts
     ensures result_value { state_of result ≡ copies (in_role (gets_copies kind)) entry (state_of parts) }
     ensures value { kind ≡ None → result ≡ parts }
 {
@@ -110,9 +110,24 @@ pub fn copies(parts: Parts, kind: Option<Receivers>, entry: Entry) -> Parts
     after
 }
 
-// Whether there is a handle of a kind.
-pub fn has(handles: Handles, kind: Option<Receivers>) -> bool
+// Whether there is an open handle of a kind.
+pub fn any_receiver(handles: Handles, kind: Option<Receivers>) -> bool
     ensures { result ≡ any (in_role (gets_copies kind)) (handles_of handles) }
 {
     (0..8).any(|handle| is_copied(kind, handles.at(handle)))
+}
+
+// `for_receivers` by number: nobody, or a number of no kind, gives no copies.
+pub fn copies(parts: Parts, kind: u8, entry: Entry) -> Parts
+    ensures result_value { state_of result ≡ copies (in_role (gets_copies_by_number kind)) entry (state_of parts) }
+    ensures value { kind ≡ NOBODY → result ≡ parts }
+{
+    for_receivers(parts, Receivers::numbered(kind), entry)
+}
+
+// `any_receiver` by number.
+pub fn has(handles: Handles, kind: u8) -> bool
+    ensures { result ≡ any (in_role (gets_copies_by_number kind)) (handles_of handles) }
+{
+    any_receiver(handles, Receivers::numbered(kind))
 }

@@ -172,7 +172,7 @@ fn arrived(parts: &Parts, message: Message) -> Arrival
 fn put_copies(parts: &mut Parts, kind: Option<Receivers>, entry: Entry)
     ensures { state_of parts.new ≡ copies (in_role (gets_copies kind)) entry (state_of parts.old) }
 {
-    let copied = copies::copies(*parts, kind, entry);
+    let copied = copies::for_receivers(*parts, kind, entry);
     let handles = copied.handles;
     let counts = copied.counts;
     let entries = copied.entries;

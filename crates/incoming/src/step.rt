@@ -35,5 +35,5 @@ pub fn noted(mut noted: [u16; 15], message: Message) -> [u16; 15]
 pub fn receivers(copied: bool, handles: Handles, kind: Receivers) -> Option<Receivers>
     ensures { result ≡ receivers_of copied (handles_of handles) kind }
 {
-    (copied & copies::has(handles, Some(kind))).then_some(kind)
+    (copied & copies::any_receiver(handles, Some(kind))).then_some(kind)
 }

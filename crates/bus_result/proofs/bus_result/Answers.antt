@@ -13,7 +13,7 @@ use Rattle.rules.specs.State.{State, with_clock, with_waits, with_wire}
 use Rattle.transmission.specs.declared.Transmission.{Transmission}
 use Rattle.wait.specs.declared.Wait.{Wait}
 use Rattle.bus_result.proofs.bus_result.Goals as goal
-use Rattle.bus_result.proofs.bus_result.Goals.{After-is_ok, then-has, else-has}
+use Rattle.bus_result.proofs.bus_result.Goals.{After-is_ok, then-any_receiver, else-any_receiver}
 
 -- the call as far as the question of a wait
 module _ (c : After-is_ok) where
@@ -24,16 +24,16 @@ module _ (c : After-is_ok) where
   abbrev answer : Entry
   answer = result_for (state_of c.args.parts.now) c.head-sent.result c.args.status c.kept_counts-kept.result c.args.ts
 
-  copied : state_of c.if-has.parts ≡ seen
+  copied : state_of c.if-any_receiver.parts ≡ seen
   copied =
       let p = c.args.parts.now in
       let sent = c.head-sent.result in
       let n = c.args.status in
       let k = c.kept_counts-kept.result in
       let ts = c.args.ts in
-      elim c.if-has.branch [
-        | then-has w ↦ ap state_of w.parts-is ∙ watched_some (state_of p) sent n k ts _ _ w.result_copy.ensures (copied_change p _ _ _ w.copies-copied.ensures.result_value)
-        | else-has w ↦ ap state_of w.parts-is ∙ watched_none (state_of p) sent n k ts _ c.has.ensures w.if-has.false
+      elim c.if-any_receiver.branch [
+        | then-any_receiver w ↦ ap state_of w.parts-is ∙ watched_some (state_of p) sent n k ts _ _ w.result_copy.ensures (copied_change p _ _ _ w.for_receivers-copied.ensures.result_value)
+        | else-any_receiver w ↦ ap state_of w.parts-is ∙ watched_none (state_of p) sent n k ts _ c.any_receiver.ensures w.if-any_receiver.false
       ]
 
   -- the owner has its entry

@@ -13,8 +13,8 @@ use Rattle.rules.specs.Deliver.{each, handle_numbers, loses, copies_by}
 use Rattle.rules.specs.Derived.{room_taken}
 use Rattle.rules.specs.Handles.{handle_at, in_role}
 use Rattle.rules.specs.State.{State}
-use Rattle.copies.proofs.copies.Goals as goal
-use Rattle.copies.proofs.copies.Goals.{then-is_copied+then-n-owed-eq16, then-is_copied+else-n-owed-eq16+then-h-n, then-is_copied+else-n-owed-eq16+else-h-n, else-is_copied}
+use Rattle.copies.proofs.for_receivers.Goals as goal
+use Rattle.copies.proofs.for_receivers.Goals.{then-is_copied+then-n-owed-eq16, then-is_copied+else-n-owed-eq16+then-h-n, then-is_copied+else-n-owed-eq16+else-h-n, else-is_copied}
 
 -- what a turn does to the parts
 abbrev Turn : Option Receivers → Entry → ℕ → Parts → Parts → Type 0

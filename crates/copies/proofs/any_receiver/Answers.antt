@@ -7,7 +7,7 @@ use Rattle.copies.specs.Kinds.{gets_copies}
 use Rattle.handles.specs.Roles.{handles_of}
 use Rattle.rules.specs.Handles.{in_role}
 use Rattle.rules.specs.State.{closed_handle}
-use Rattle.copies.proofs.has.Goals as goal
+use Rattle.copies.proofs.any_receiver.Goals as goal
 
 pub returns : goal.returns
 returns c =

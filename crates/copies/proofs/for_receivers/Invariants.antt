@@ -4,7 +4,7 @@ use Rattle.std.specs.Prelude.{None}
 use Rattle.parts.proofs.Arrays.{LongParts}
 use Rattle.parts.specs.Parts.{state_of}
 use Rattle.rules.specs.Deliver.{each, handle_numbers}
-use Rattle.copies.proofs.copies.Given as goal
+use Rattle.copies.proofs.for_receivers.Given as goal
 
 abbrev pub invariant-loop-handle : goal.invariant-loop-handle
 invariant-loop-handle l =
