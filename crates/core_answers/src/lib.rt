@@ -1,7 +1,7 @@
 // What the core answers to a message, byte for byte.
 #![tactic(auto)]
 
-ghost use Rattle.std.specs.Prelude.{◌≡◌, ◌∷◌};
+ghost use Rattle.std.specs.Prelude.{◌≡◌, ◌∷◌, true, false};
 ghost use Rattle.core_answers.specs.Work.{message_of, abort_of, work_of};
 ghost use Rattle.constants.specs.Kernel.{CEC-LOG-ADDR-BROADCAST};
 ghost use Rattle.message.specs.Message.{initiator, destination};
@@ -18,12 +18,12 @@ use constants::{
 use message::Message;
 use settings::Settings;
 
-// What the core makes of a message: a question with its answer, the report of an address, or neither.
+// Whether a message is a question that the core answers, or reports an address; and the answer. Where nothing is asked, this is what FF would get, and is not sent.
 #[derive(Clone, Copy)]
-pub enum Work {
-    Answer(Message),
-    Report,
-    Nothing,
+pub struct Work {
+    pub is_question: bool,
+    pub is_report: bool,
+    pub answer: Message,
 }
 
 // The first byte of an answer to the initiator, from the address asked.
@@ -103,21 +103,42 @@ fn features_answer(settings: Settings, asked: Message) -> Message
     answer(to_all(asked), CEC_MSG_REPORT_FEATURES, &parameters)
 }
 
-// What the core makes of a message, by its opcode; the features are asked for with CEC 2.0 alone.
+fn question(answer: Message) -> Work
+    ensures { result ≡ record { is_question = true; is_report = false; answer = answer } }
+{
+    Work {
+        is_question: true,
+        is_report: false,
+        answer,
+    }
+}
+
+fn no_question(is_report: bool, answer: Message) -> Work
+    ensures { result ≡ record { is_question = false; is_report = is_report; answer = answer } }
+{
+    Work {
+        is_question: false,
+        is_report,
+        answer,
+    }
+}
+
+// What the core has to say to a message, by its opcode; the features are asked for with CEC 2.0 alone.
 pub fn work_for(settings: Settings, asked: Message) -> Work
     ensures { result ≡ work_of settings asked }
 {
+    let refusal = feature_abort(asked, CEC_OP_ABORT_REFUSED);
     let opcode = asked.opcode();
     match opcode {
-        CEC_MSG_GET_CEC_VERSION => Work::Answer(version_answer(settings, asked)),
-        CEC_MSG_GIVE_DEVICE_VENDOR_ID => Work::Answer(vendor_answer(settings, asked)),
-        CEC_MSG_GIVE_PHYSICAL_ADDR => Work::Answer(address_answer(settings, asked)),
-        CEC_MSG_GIVE_OSD_NAME => Work::Answer(name_answer(settings, asked)),
+        CEC_MSG_GET_CEC_VERSION => question(version_answer(settings, asked)),
+        CEC_MSG_GIVE_DEVICE_VENDOR_ID => question(vendor_answer(settings, asked)),
+        CEC_MSG_GIVE_PHYSICAL_ADDR => question(address_answer(settings, asked)),
+        CEC_MSG_GIVE_OSD_NAME => question(name_answer(settings, asked)),
         CEC_MSG_GIVE_FEATURES if settings.version == CEC_OP_CEC_VERSION_2_0 => {
-            Work::Answer(features_answer(settings, asked))
+            question(features_answer(settings, asked))
         }
-        CEC_MSG_ABORT => Work::Answer(feature_abort(asked, CEC_OP_ABORT_REFUSED)),
-        CEC_MSG_REPORT_PHYSICAL_ADDR => Work::Report,
-        _ => Work::Nothing,
+        CEC_MSG_ABORT => question(refusal),
+        CEC_MSG_REPORT_PHYSICAL_ADDR => no_question(true, refusal),
+        _ => no_question(false, refusal),
     }
 }

@@ -1,10 +1,9 @@
 -- Which steps are to be done with a message, by the tests of `rules` (document 01, "A message from the wire").
 -- Assumes nothing.
-use Rattle.std.specs.Prelude.{Bool, true, false, cond, not, ◌&&◌, ◌||◌, List, nat_le, Option, Some, None, is_some}
+use Rattle.std.specs.Prelude.{Bool, cond, not, ◌&&◌, ◌||◌, List, nat_le, Option, Some, None, is_some}
 use Rattle.constants.specs.Kernel.{CEC-OP-ABORT-UNRECOGNIZED-OP}
 use Rattle.core_answers.specs.Work.{message_of, abort_of}
 use Rattle.core_answers.specs.declared.Work.{Work}
-use Rattle.core_answers.specs.declared.Work.TheVariants.{Answer, Report, Nothing}
 use Rattle.handle.specs.declared.Handle.{Handle}
 use Rattle.lists.specs.Sums.{any}
 use Rattle.message.specs.Message.{opcode, is_feature_abort}
@@ -15,14 +14,7 @@ use Rattle.steps.specs.declared.Chosen.{Chosen}
 
 -- the answer to a question, if the core may give it
 abbrev pub answer_if : Bool → Work → Option Message
-answer_if may (Answer m) = cond may (Some m) None
-answer_if may Report = None
-answer_if may Nothing = None
-
-abbrev pub is_report : Work → Bool
-is_report (Answer m) = false
-is_report Report = true
-is_report Nothing = false
+answer_if may work = cond (may && work.is_question) (Some work.answer) None
 
 -- the core's answer, if it gives one: `rules: is_answered`, with the opcode's part taken from the core's work
 abbrev pub answer_to : List Handle → Work → Message → Option Message
@@ -30,7 +22,7 @@ answer_to hs work m = answer_if (is_directed m && is_registered m && not (any (i
 
 -- `rules: is_noted`
 abbrev pub notes_of : Work → Message → Bool
-notes_of work m = is_report work && nat_le 5 m.length && is_registered m
+notes_of work m = work.is_report && nat_le 5 m.length && is_registered m
 
 -- whether the core refuses the message with a Feature Abort
 abbrev pub aborts_of : List Handle → Work → Bool → Message → Bool

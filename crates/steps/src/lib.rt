@@ -39,17 +39,14 @@ fn is_registered(message: Message) -> bool
 fn answer_if(may_answer: bool, work: Work) -> Option<Message>
     ensures { result ≡ answer_if may_answer work }
 {
-    match work {
-        Work::Answer(answer) if may_answer => Some(answer),
-        _ => None,
-    }
+    (may_answer && work.is_question).then_some(work.answer)
 }
 
 // Whether a message reports an address that is noted.
 fn is_noted(work: Work, message: Message) -> bool
     ensures { result ≡ notes_of work message }
 {
-    matches!(work, Work::Report) && 5 <= message.length() && is_registered(message)
+    work.is_report && 5 <= message.length() && is_registered(message)
 }
 
 // From the handles, the core's work, whether the message is a reply and whether its flag was set. What the core sends is its answer, or a Feature Abort.
